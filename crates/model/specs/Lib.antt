@@ -1,0 +1,5 @@
+pub mod Tree
+pub mod Fit
+pub mod Insert
+pub mod Remove
+pub mod Calls
