@@ -49,7 +49,7 @@ most zero t F = F .most
 most (suc h) t F = F .most
 
 pub child : (h : ℕ) (t : Tree h) → Fit h t → 15 ≤ length (t .elems) → Child h (Fit h) t
-child h t F l = record { least = l; fit = F }
+child h t F l = record { least = omega arith; fit = F }
 
 -- ---- the list is as long as the size says
 

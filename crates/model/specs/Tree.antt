@@ -5,7 +5,7 @@ use mathlib.Core.Bool.{Bool, true, false, cond}
 use Prim.Native.Nat.{ℕ, zero, suc, _+_, _-_}
 use lib.Dec.{eqb, leb}
 use lib.ListN.{length, take, getD, set}
-use Rattle.lists.specs.Lists.{sum, count, concat}
+use Rattle.lists.specs.Lists.{sum, count, concat, from}
 use Rattle.model.specs.declared.Place.{Place}
 use Rattle.model.specs.declared.Found.{Found}
 
@@ -114,6 +114,11 @@ pub data Root : Type 0 where
 pub record Bag : Type 0 where
   pub root : Root
   pub free : List ℕ
+
+-- what formatting makes of p nodes: an empty list, and the chain 1, 2, .. p
+unfoldable pub empty : ℕ → Bag
+unfolding from
+empty p = record { root = bare; free = from 1 p }
 
 unfoldable pub listOf : Root → List ℕ
 unfolding flat

@@ -3,9 +3,9 @@ use mathlib.Core.List.{List, [], _∷_, map}
 use mathlib.Core.Bool.{Bool, true, false, _&&_}
 use Prim.Native.Nat.{ℕ, zero, suc}
 use lib.Dec.{eqb}
-use Rattle.lists.specs.Lists.{concat, from}
+use Rattle.lists.specs.Lists.{concat}
 use Rattle.model.specs.declared.Answer.{Answer}
-use Rattle.model.specs.Tree.{Tree, Root, bare, rooted, Bag}
+use Rattle.model.specs.Tree.{Tree, Root, bare, rooted, Bag, empty}
 use Rattle.model.specs.Calls.{Outcome, insertCall, pushCall, getCall, replaceCall, removeCall}
 
 pub data Call : Type 0 where
@@ -24,11 +24,6 @@ unfoldable pub runs : List Call → Bag → Bag
 unfolding run
 runs [] b = b
 runs (c ∷ cs) b = runs cs (run c b .bag)
-
--- an empty list in p nodes, all free
-unfoldable pub empty : ℕ → Bag
-unfolding from
-empty p = record { root = bare; free = from 1 p }
 
 -- each node from the root on, left to right: its id, then its elements
 unfoldable pub nodesOf : (h : ℕ) → Tree h → List (List ℕ)
