@@ -1,6 +1,6 @@
 -- The four operations on a whole bag: the list as `Vec` has it, the root's shape, and every node met as often as before.
 use mathlib.Core.Path.{_≡_, refl, sym, ap, _∙_}
-use mathlib.Core.List.{List, [], _∷_, _++_}
+use mathlib.Core.List.{List, [], _∷_}
 use mathlib.Core.Bool.{Bool, true, false}
 use Prim.Native.Nat.{ℕ, zero, suc, _+_, _≤_, _<_}
 use native.Mathlib.Omega.{arith}
@@ -14,7 +14,7 @@ use Rattle.model.specs.Tree.{bagGet, bagReplace}
 use Rattle.model.specs.Fit.{Fit, FitTree, FitRoot}
 use Rattle.model.specs.Insert.{isFull, splitChild, insertNonFull, neededBelow, needed, grownBag, bagInsert}
 use Rattle.model.specs.Remove.{remove, lowered, Removal, bagRemove}
-use Rattle.model.proofs.Nodes.{node, held, held-inner, fits, child, most, flat-length}
+use Rattle.model.proofs.Nodes.{node, held-inner, fits, child, most, flat-length}
 use Rattle.model.proofs.Find.{place, found}
 use Rattle.model.proofs.Get.{get-law, replace-law}
 use Rattle.model.proofs.Split.{Split, split-law}

@@ -93,6 +93,14 @@ tall (suc h) t F n l =
 pub height : (h : ℕ) (t : Tree h) → FitTree h t → 2 * 16 ^ h - 1 ≤ size h t
 height h t F = omega (arith, tall h t (F .fit) 1 (F .some))
 
+-- so it has fewer levels than elements
+pub levels-few : (h : ℕ) (t : Tree h) → FitTree h t → h ≤ size h t
+levels-few h t F = omega (arith, height h t F, grows h)
+  where
+    grows : (n : ℕ) → suc n ≤ 16 ^ n
+    grows zero = omega arith
+    grows (suc n) = rw (pow-succ' 16 n) (omega (arith, grows n))
+
 -- demand 3: a lookup among fewer than 2 · 16 ^ m - 1 samples compares at most 32 children in each of m - 1 levels
 pub compared-most : (b : Bag) (i : ℕ) → FitRoot (b .root) → i < length (listOf (b .root)) → (m : ℕ) → 1 ≤ m
     → length (listOf (b .root)) < 2 * 16 ^ m - 1 → bagGet b i .compared ≤ 32 * (m - 1)

@@ -9,9 +9,9 @@ use borrow.Author.Tests.{leb-true, leb-false, ltb-true, ltb-false}
 use lib.Dec.{leb, ltb}
 use lib.ListN.{length, take, drop, getD, length-append}
 use lib.Seq.{set-split}
-use Rattle.lists.specs.Lists.{sum, count, removeAt, last}
+use Rattle.lists.specs.Lists.{sum, removeAt, last}
 use Rattle.lists.proofs.Counts.{count-append}
-use Rattle.model.specs.Tree.{Tree, kid, none, size, flat, before}
+use Rattle.model.specs.Tree.{Tree, kid, none, size, before}
 use Rattle.model.specs.Fit.{Child, Fit}
 use Rattle.model.specs.declared.Repair.{Repair}
 use Rattle.model.specs.declared.Repair.the-variants.{Nothing, FromLeft, FromRight, WithLeft, WithRight}

@@ -3,6 +3,7 @@ use mathlib.Core.Path.{_≡_, refl, ap, _∙_}
 use mathlib.Core.List.{List, [], _∷_, _++_, map}
 use mathlib.Core.Bool.{Bool, true, false}
 use Prim.Native.Nat.{ℕ, zero, suc, _+_, _-_, _≤_, _<_}
+use native.Mathlib.Nat.{suc-add}
 use native.Mathlib.Numerals.{add-one}
 use native.Mathlib.Decide.{decLt}
 use native.Mathlib.Omega.{arith}
@@ -23,7 +24,7 @@ use Rattle.model.proofs.Splice.{left, right, left-length, flat-one}
 
 -- index j in child c: every child up to it was compared
 abbrev pub place : ℕ → ℕ → Place
-place c j = record { child = c; sub = j; compared = suc c }
+place c j = record { child = c; sub = j; compared = c + 1 }
 
 find-here : (n : ℕ) (ns : List ℕ) (i : ℕ) → i ≤ n → findIn (n ∷ ns) i ≡ place 0 i
 unfolding findIn
@@ -68,7 +69,7 @@ module _ {A : Type 0} (g : A → ℕ) (z : A) where
             compared = omega arith;
           })
 
-  find-unique : (ks : List A) (i c j : ℕ) → c < length ks → j ≤ g (getD ks c z) → i ≡ total g (take c ks) + c + j
+  pub find-unique : (ks : List A) (i c j : ℕ) → c < length ks → j ≤ g (getD ks c z) → i ≡ total g (take c ks) + c + j
       → findIn (map g ks) i ≡ place c j
   unfolding sum
   find-unique [] i c j l m e = absurd (omega arith)
@@ -77,8 +78,9 @@ module _ {A : Type 0} (g : A → ℕ) (z : A) where
       rw q (find-here (g k) (map g ks) j m)
   find-unique (k ∷ ks) i (suc c) j l m e =
       let r : ℕ = total g (take c ks) + c + j in
-      find-there (g k) (map g ks) i r (omega arith)
-      ∙ ap later (find-unique ks r c j (omega arith) m refl)
+      rw (suc-add c 1)
+      (find-there (g k) (map g ks) i r (omega arith)
+      ∙ ap later (find-unique ks r c j (omega arith) m refl))
 
 -- ---- in a tree
 

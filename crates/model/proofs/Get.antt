@@ -9,13 +9,24 @@ use lib.ListN.{length, getD, set, length-append, length-set}
 use lib.Seq.{getD-at, set-at, set-split, map-set-same}
 use Rattle.lists.proofs.Edits.{getD-middle, set-middle, split-two}
 use Rattle.model.specs.declared.Found.{Found}
-use Rattle.model.specs.Tree.{Tree, none, kid, size, ids, flat, find, atSeparator, withElem, get, replace}
+use Rattle.model.specs.Tree.{Tree, none, kid, size, ids, flat, find, atSeparator, withKid, withElem, get, replace}
 use Rattle.model.specs.Fit.{Fit}
 use Rattle.model.proofs.Nodes.{node}
 use Rattle.model.proofs.Splice.{splice, left, right, flat-one, with-flat, with-fit, pair-flat, flat-two}
-use Rattle.model.proofs.Find.{Step, step, separator}
+use Rattle.model.proofs.Find.{into, Step, step, separator}
 
 -- ---- lookup
+
+-- at a separator, and inside a child
+pub get-separator : (h : ℕ) (t : Tree (suc h)) (i : ℕ) → atSeparator h t i ≡ true
+    → get (suc h) t i ≡ record { element = getD (t .elems) (find h t i .child) 0; compared = find h t i .compared }
+unfolding get
+get-separator h t i e = rw (e, get)
+
+pub get-inside : (h : ℕ) (t : Tree (suc h)) (i : ℕ) → atSeparator h t i ≡ false
+    → get (suc h) t i ≡ (let r = get h (into h t i) (find h t i .sub) in record { element = r .element; compared = find h t i .compared + r .compared })
+unfolding get
+get-inside h t i e = rw (e, get)
 
 -- the element at index i, and the child lengths compared: at most 32 in each inner level, and some if there is one
 pub record Got (h : ℕ) (t : Tree h) (i : ℕ) (r : Found) : Type 0 where
@@ -45,7 +56,7 @@ get-law (suc h) t F i l =
         let m : c < length (t .elems) = separator h t F i l q in
         let at : length (left h t c ++ flat h k) ≡ i = omega (arith, length-append (left h t c) (flat h k)) in
         let after : List ℕ = flat h (kid h t (c + 1)) ++ right h t (suc c) in
-        rw (e, get) (record {
+        rw (get-separator h t i e) (record {
           element = sym (rw (flat-two h t F c m) (getD-at (left h t c ++ flat h k) (getD (t .elems) c 0) after 0 i at));
           compared = omega arith;
           some = omega arith;
@@ -54,13 +65,23 @@ get-law (suc h) t F i l =
         let q = eqb-false j (size h k) e in
         let r = below (omega arith) in
         let mid = getD-middle (left h t c) (flat h k) (right h t c) i j (w .inList) 0 (omega arith) in
-        rw (e, get) (record {
+        rw (get-inside h t i e) (record {
           element = r .element ∙ sym (rw (flat-one h t F c (w .child)) mid);
           compared = omega arith;
           some = omega arith;
         })
 
 -- ---- replacement
+
+pub replace-separator : (h : ℕ) (t : Tree (suc h)) (i x : ℕ) → atSeparator h t i ≡ true
+    → replace (suc h) t i x ≡ withElem (suc h) t (find h t i .child) x
+unfolding replace
+replace-separator h t i x e = rw (e, replace)
+
+pub replace-inside : (h : ℕ) (t : Tree (suc h)) (i x : ℕ) → atSeparator h t i ≡ false
+    → replace (suc h) t i x ≡ withKid h t (find h t i .child) (replace h (into h t i) (find h t i .sub) x)
+unfolding replace
+replace-inside h t i x e = rw (e, replace)
 
 -- the list with another element at index i, in the same nodes
 pub record Replaced (h : ℕ) (t : Tree h) (i x : ℕ) (s : Tree h) : Type 0 where
@@ -99,7 +120,7 @@ replace-law (suc h) t F i x l =
         let at : length (left h t c ++ flat h k) ≡ i = omega (arith, length-append (left h t c) (flat h k)) in
         let after : List ℕ = flat h (kid h t (c + 1)) ++ right h t (suc c) in
         let n = length-set (t .elems) c x in
-        rw (e, replace) (record {
+        rw (replace-separator h t i x e) (record {
           list = ap (flat (suc h)) (elem-splice h t c x m (omega arith))
               ∙ pair-flat h t F c m k x (kid h t (c + 1))
               ∙ sym (rw (flat-two h t F c m) (set-at (left h t c ++ flat h k) (getD (t .elems) c 0) after x i at));
@@ -112,7 +133,7 @@ replace-law (suc h) t F i x l =
         let r = below (omega arith) in
         let s : Tree h = replace h k j x in
         let mid = set-middle (left h t c) (flat h k) (right h t c) i j (w .inList) x (omega arith) in
-        rw (e, replace) (record {
+        rw (replace-inside h t i x e) (record {
           list = with-flat h t F c (w .child) s
               ∙ rw (r .list) (sym (rw (flat-one h t F c (w .child)) mid));
           fit = with-fit h t F c (w .child) s (record { least = omega arith; fit = r .fit });

@@ -1,6 +1,6 @@
 -- Insertion into a tree whose root has room: the list, the shape, and which nodes are taken.
 use mathlib.Core.Path.{_≡_, refl, sym, ap, _∙_}
-use mathlib.Core.List.{List, [], _∷_, _++_}
+use mathlib.Core.List.{List, [], _∷_}
 use mathlib.Core.Bool.{Bool, true, false}
 use Prim.Native.Nat.{ℕ, zero, suc, _+_, _≤_, _<_}
 use native.Mathlib.Omega.{arith}
@@ -8,11 +8,10 @@ use borrow.Author.Tests.{leb-true, leb-false, lt-leb}
 use lib.ListN.{length, drop}
 use Rattle.lists.specs.Lists.{count, insertAt}
 use Rattle.lists.proofs.Edits.{length-insertAt, insertAt-middle}
-use Rattle.lists.proofs.Counts.{count-append}
 use Rattle.model.specs.Tree.{Tree, kid, size, ids, flat, find, withKid}
 use Rattle.model.specs.Fit.{Fit}
 use Rattle.model.specs.Insert.{isFull, splitChild, Grown, insertNonFull, neededBelow}
-use Rattle.model.proofs.Nodes.{held, most, flat-length}
+use Rattle.model.proofs.Nodes.{held, most}
 use Rattle.model.proofs.Splice.{left, right, flat-one, with-flat, with-fit, with-held}
 use Rattle.model.proofs.Find.{into, step}
 use Rattle.model.proofs.Split.{split-law}

@@ -1,15 +1,15 @@
 -- What a tree is made of, at any height: its list, its size, the nodes that it holds; nodes joined, and cut at a separator.
 use mathlib.Core.Path.{_≡_, refl, sym, ap, ap₂, _∙_}
 use mathlib.Core.List.{List, [], _∷_, _++_, map, map-append}
-use Prim.Native.Nat.{ℕ, zero, suc, _+_, _≤_, _<_}
+use Prim.Native.Nat.{ℕ, zero, suc, _+_, _-_, _≤_, _<_}
 use native.Mathlib.Omega.{arith}
 use lib.ListN.{length, take, drop, getD, length-append, length-map, length-take, length-drop, take-append-drop}
-use lib.Seq.{split-at}
+use lib.Seq.{split-at, getD-drop}
 use Rattle.lists.specs.Lists.{count}
 use Rattle.lists.proofs.All.{All, all-append, all-take, all-drop, all-map, all-at, all-of}
-use Rattle.lists.proofs.Sums.{total, total-append, measure-concat}
+use Rattle.lists.proofs.Sums.{total, total-append, total-at, measure-concat}
 use Rattle.lists.proofs.Counts.{count-append}
-use Rattle.model.specs.Tree.{Node, Tree, none, size, ids, flat}
+use Rattle.model.specs.Tree.{Node, Tree, none, kid, size, ids, flat}
 use Rattle.model.specs.Fit.{Child, Fit}
 use Rattle.model.specs.Remove.{joined}
 use Rattle.model.proofs.Weave.{after, weave-after, length-weave}
@@ -25,6 +25,29 @@ held h k t = count k (ids h t)
 pub held-inner : (h k : ℕ) (t : Tree (suc h)) → held (suc h) k t ≡ count k (t .id ∷ []) + total (held h k) (t .kids)
 unfolding ids count
 held-inner h k t = omega (arith, measure-concat (count k) refl (count-append k) (ids h) (t .kids))
+
+pub held-id : (h k : ℕ) (t : Tree h) → count k (t .id ∷ []) ≤ held h k t
+held-id zero k t = unfold ids in omega arith
+held-id (suc h) k t = omega (arith, held-inner h k t)
+
+-- a node and one of its children
+pub held-kid : (h k : ℕ) (t : Tree (suc h)) (c : ℕ) → c < length (t .kids) → count k (t .id ∷ []) + held h k (kid h t c) ≤ held (suc h) k t
+held-kid h k t c l = omega (arith, held-inner h k t, total-at (held h k) (t .kids) c (none h) l)
+
+-- two of its children
+pub held-kids : (h k : ℕ) (t : Tree (suc h)) (c d : ℕ) → c < d → d < length (t .kids)
+    → held h k (kid h t c) + held h k (kid h t d) ≤ held (suc h) k t
+held-kids h k t c d l m =
+    let rest : List (Tree h) = drop (suc c) (t .kids) in
+    let e : suc c + (d - suc c) ≡ d = omega arith in
+    let same : getD rest (d - suc c) (none h) ≡ kid h t d = getD-drop (suc c) (t .kids) (d - suc c) (none h) ∙ ap (kid h t) e in
+    omega (
+      arith,
+      held-inner h k t,
+      total-at (held h k) (t .kids) c (none h) (omega arith),
+      total-at (held h k) rest (d - suc c) (none h) (rw length-drop (omega arith)),
+      ap (held h k) same,
+    )
 
 -- ---- a tree's shape: all that makes it fit, but how many elements its root has
 
@@ -64,6 +87,10 @@ pub size-least : (h : ℕ) (t : Tree h) → length (t .elems) ≤ size h t
 unfolding size
 size-least zero t = omega arith
 size-least (suc h) t = omega arith
+
+pub kid-size : (h : ℕ) (t : Tree (suc h)) (c : ℕ) → c < length (t .kids) → size h (kid h t c) ≤ size (suc h) t
+unfolding size
+kid-size h t c l = omega (arith, total-at (size h) (t .kids) c (none h) l)
 
 -- ---- the same list in other nodes: t with the free nodes f became s with the free nodes g
 

@@ -12,7 +12,7 @@ use Rattle.lists.proofs.All.{nil, cons}
 use Rattle.lists.proofs.Sums.{total-append}
 use Rattle.lists.proofs.Counts.{count-append}
 use Rattle.model.specs.declared.Place.{Place}
-use Rattle.model.specs.Tree.{Tree, none, kid, size, weave, flat, find, before}
+use Rattle.model.specs.Tree.{Tree, none, kid, size, weave, find, before}
 use Rattle.model.specs.Fit.{Fit}
 use Rattle.model.specs.Insert.{isFull, splitChild, neededBelow}
 use Rattle.model.proofs.Nodes.{shape, child, Rearranged, rearranged}

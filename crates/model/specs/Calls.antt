@@ -2,7 +2,7 @@
 use mathlib.Core.Bool.{Bool, true, false}
 use Prim.Native.Nat.{ℕ}
 use lib.Dec.{leb, ltb}
-use lib.ListN.{length, getD}
+use lib.ListN.{length}
 use Rattle.model.specs.declared.Answer.{Answer}
 use Rattle.model.specs.Tree.{Bag, listOf, bagGet, bagReplace}
 use Rattle.model.specs.Insert.{bagInsert, needed}

@@ -1,13 +1,13 @@
 -- The laws of words stored from a place on, and of runs.
 use mathlib.Core.Path.{_≡_, refl, ap, _∙_}
-use mathlib.Core.List.{List, [], _∷_, _++_, append-assoc}
+use mathlib.Core.List.{List, [], _∷_, _++_, append-nil, append-assoc}
 use mathlib.Core.Logic.{_≢_, _⊎_, inl, inr}
 use Prim.Native.Nat.{ℕ, zero, suc, _+_, _-_, _≤_, _<_}
 use native.Mathlib.Nat.{add-zero, add-suc, suc-add}
 use native.Mathlib.Omega.{arith}
-use lib.ListN.{length, getD, set, take, drop, length-set, length-drop}
-use lib.Seq.{sets, sets-eq, set-comm, getD-set-same, getD-set-other, drop-set-lt, drop-set-add, take-set-le}
-use lib.Seq.{getD-take, getD-drop, take-suc, drop-cons, length-take-le, take-at, drop-at}
+use lib.ListN.{length, getD, set, take, drop, length-set, length-drop, drop-of-length-le}
+use lib.Seq.{sets, sets-eq, set-comm, set-set, set-getD, getD-set-same, getD-set-other, drop-set-lt, drop-set-add, take-set-le}
+use lib.Seq.{getD-take, getD-drop, take-suc, drop-cons, length-take-le, take-at, drop-at, take-take, drop-drop}
 use Rattle.words.specs.Words.{run}
 
 -- ---- words stored from a place on
@@ -41,6 +41,28 @@ module _ {A : Type 0} where
       let f : at ≡ i = omega arith in
       rw f (sets-outside (set xs i y) (suc i) ys i d (inl (omega arith)) ∙ getD-set-same xs i y d h)
   sets-inside xs at (y ∷ ys) i (suc j) d e l h = sets-inside (set xs at y) (suc at) ys i j d (omega arith) (omega arith) (rw length-set h)
+
+  -- a store inside a list that was stored may as well be made in that list: one word, and several
+  pub set-inside : (xs : List A) (at : ℕ) (ys : List A) (i : ℕ) (v : A) → i < length ys
+      → set (sets xs at ys) (at + i) v ≡ sets xs at (set ys i v)
+  set-inside xs at [] i v l = absurd (omega arith)
+  set-inside xs at (y ∷ ys) zero v l =
+      let h : at < suc at = omega arith in
+      rw (add-zero, set-sets (set xs at y) (suc at) ys at v h, set-set)
+  set-inside xs at (y ∷ ys) (suc i) v l = rw (add-suc, ← (suc-add at i)) (set-inside (set xs at y) (suc at) ys i v (omega arith))
+
+  pub sets-sets : (xs : List A) (at : ℕ) (ys : List A) (i : ℕ) (zs : List A) → i + length zs ≤ length ys
+      → sets (sets xs at ys) (at + i) zs ≡ sets xs at (sets ys i zs)
+  sets-sets xs at ys i [] l = refl
+  sets-sets xs at ys i (z ∷ zs) l =
+      let h : i < length ys = omega arith in
+      rw (set-inside xs at ys i z h, ← add-suc) (sets-sets xs at (set ys i z) (suc i) zs (rw length-set (omega arith)))
+
+  -- a list stored over all of another
+  pub sets-all : (xs ys : List A) → length xs ≡ length ys → sets xs 0 ys ≡ ys
+  sets-all xs ys e =
+      let past : length xs ≤ 0 + length ys = omega arith in
+      rw (sets-eq ys xs 0 (omega arith), drop-of-length-le xs past, append-nil ys)
 
 -- ---- runs
 
@@ -79,3 +101,19 @@ run-sets xs at ys n e h =
     let rest : List ℕ = drop (at + length ys) xs in
     rw (sets-eq ys xs at (omega arith), append-assoc, drop-at (take at xs) (ys ++ rest) at (length-take-le at xs (omega arith)))
     (take-at ys rest n e)
+
+-- a run stored where it was read, and a run of a run
+pub sets-run : (xs : List ℕ) (at n : ℕ) → at + n ≤ length xs → sets xs at (run xs at n) ≡ xs
+unfolding run
+sets-run xs at zero h = refl
+sets-run xs at (suc n) h = rw (run-cons xs at n (omega arith), set-getD xs at 0, sets) (sets-run xs (suc at) n (omega arith))
+
+pub run-run : (xs : List ℕ) (from n i m : ℕ) → i + m ≤ n → run (run xs from n) i m ≡ run xs (from + i) m
+unfolding run
+run-run xs from n i m h = rw (← drop-drop) (go (drop from xs) n i h)
+  where
+    go : (l : List ℕ) (n i : ℕ) → i + m ≤ n → take m (drop i (take n l)) ≡ take m (drop i l)
+    go l n zero h = take-take m n l (omega arith)
+    go l zero (suc i) h = absurd (omega arith)
+    go [] (suc n) (suc i) h = refl
+    go (x ∷ l) (suc n) (suc i) h = go l n i (omega arith)

@@ -1,0 +1,94 @@
+-- What an edit elsewhere leaves: a tree and a chain stand where they stood, if the blocks of their own nodes are as they were.
+use mathlib.Core.Path.{_≡_, _∙_}
+use mathlib.Core.List.{List, [], _∷_, _++_, map}
+use Prim.Native.Nat.{ℕ, zero, suc, _<_}
+use native.Mathlib.Omega.{arith}
+use lib.ListN.{length, getD}
+use Rattle.lists.specs.Lists.{count, concat}
+use Rattle.lists.proofs.Counts.{count-append, count-self, count-getD}
+use Rattle.model.specs.Tree.{Tree, kid, ids, Root, bare, rooted, rootIds}
+use Rattle.model.proofs.Nodes.{held-kid}
+use Rattle.pool.specs.Layout.{chainWord, nodeWords, block, withBlock}
+use Rattle.pool.specs.Parts.{Inside, Stored, At, RootAt, ChainAt}
+use Rattle.pool.specs.Chain.{Untouched}
+use Rattle.pool.proofs.Block.{length-withBlock, head-word, block-other}
+use Rattle.pool.proofs.Cells.{tree-ids, chain-ids, words-are, at-cells, links-cells}
+
+-- ---- a tree's own nodes
+
+id-counted : (h : ℕ) (t : Tree h) → 0 < count (t .id) (ids h t)
+unfolding ids
+id-counted zero t = omega (arith, count-self (t .id) [])
+id-counted (suc h) t = omega (arith, count-self (t .id) (concat (map (ids h) (t .kids))))
+
+-- ---- the same blocks
+
+-- the nodes in ks have the same words in both
+abbrev pub Same : List ℕ → List ℕ → List ℕ → Type 0
+Same w w′ ks = (k : ℕ) → 0 < count k ks → block w′ k ≡ block w k
+
+module _ (w w′ : List ℕ) (e : length w′ ≡ length w) where
+  inside-frame : {k : ℕ} → Inside w k → Inside w′ k
+  inside-frame I = record { some = I .some; room = omega arith }
+
+  pub stored-frame : {k : ℕ} {ys : List ℕ} → block w′ k ≡ block w k → Stored w k ys → Stored w′ k ys
+  stored-frame s S = record { inside = inside-frame (S .inside); is = s ∙ S .is }
+
+  pub at-frame : (h : ℕ) (t : Tree h) → Same w w′ (ids h t) → At w h t → At w′ h t
+  at-frame zero t s A = record { here = stored-frame (s (t .id) (id-counted zero t)) (A .here); each = tt }
+  at-frame (suc h) t s A = record {
+    here = stored-frame (s (t .id) (id-counted (suc h) t)) (A .here);
+    each = λ c l. at-frame h (kid h t c) (λ k m. s k (omega (arith, held-kid h k t c l))) (A .each c l);
+  }
+
+  pub root-frame : (r : Root) → Same w w′ (rootIds r) → RootAt w r → RootAt w′ r
+  unfolding rootIds
+  root-frame bare s A = tt
+  root-frame (rooted h t) s A = at-frame h t s A
+
+  pub chain-frame : (f : List ℕ) → Same w w′ f → getD w′ chainWord 0 ≡ getD w chainWord 0 → ChainAt w f → ChainAt w′ f
+  chain-frame f s q C =
+      record { first = q ∙ C .first; links = λ i l. stored-frame (s (getD f i 0) (count-getD f i 0 l)) (C .links i l) }
+
+-- ---- a node of a tree, and one of a chain, lies in the pool
+
+module _ (w : List ℕ) where
+  pub at-inside : (h : ℕ) (t : Tree h) → At w h t → (k : ℕ) → 0 < count k (ids h t) → Inside w k
+  at-inside h t A k l = words-are (Stored w) k (at-cells w h t A) (rw (tree-ids h t) l) .inside
+
+  pub chain-inside : (f : List ℕ) → ChainAt w f → (k : ℕ) → 0 < count k f → Inside w k
+  chain-inside f C k l = words-are (Stored w) k (links-cells w f (C .links)) (rw (chain-ids f) l) .inside
+
+-- ---- an edit of the nodes in own
+
+-- no node of ks is among them
+abbrev pub Apart : List ℕ → List ℕ → Type 0
+Apart own ks = (k : ℕ) → 0 < count k ks → count k own ≡ 0
+
+module _ {w w′ own : List ℕ} (U : Untouched w w′ own) where
+  pub at-untouched : (h : ℕ) (t : Tree h) → Apart own (ids h t) → At w h t → At w′ h t
+  at-untouched h t a A = at-frame w w′ (U .long) h t (λ k l. U .others k (at-inside w h t A k l) (a k l)) A
+
+  pub root-untouched : (r : Root) → Apart own (rootIds r) → RootAt w r → RootAt w′ r
+  unfolding rootIds
+  root-untouched bare a A = tt
+  root-untouched (rooted h t) a A = at-untouched h t a A
+
+-- other words for one node
+module _ (w : List ℕ) (k : ℕ) (b : List ℕ) (I : Inside w k) (e : length b ≡ nodeWords) where
+  pub block-untouched : Untouched w (withBlock w k b) (k ∷ [])
+  block-untouched = record {
+    long = length-withBlock w k b;
+    head = λ i l n. head-word w k b i l;
+    others = λ j J z. block-other w k b e j (J .some) (I .some) (λ q. omega (arith, rw q at z, count-self k []));
+  }
+
+-- one edit after another
+pub untouched-both : {u v w xs ys : List ℕ} → Untouched u v xs → Untouched v w ys → Untouched u w (xs ++ ys)
+untouched-both {u} {v} {xs} {ys} S T = record {
+  long = T .long ∙ S .long;
+  head = λ i l n. T .head i l n ∙ S .head i l n;
+  others = λ k I z.
+      let both = count-append k xs ys in
+      T .others k (inside-frame u v (S .long) I) (omega arith) ∙ S .others k I (omega arith);
+}

@@ -1,0 +1,160 @@
+// The pool: where a node's words are, what they say, the child finder, the free chain, and formatting.
+ghost use mathlib.Core.Path.{_≡_};
+ghost use mathlib.Core.List.{List, _∷_};
+ghost use Prim.Native.Nat.{ℕ, _+_, _^_, _<_, _≤_};
+ghost use lib.Dec.{eqb, leb};
+ghost use lib.ListN.{length, getD};
+ghost use Rattle.lists.specs.Lists.{count};
+ghost use Rattle.model.specs.Tree.{findIn, empty};
+ghost use Rattle.pool.specs.Layout.{nodeWords, start, words};
+ghost use Rattle.pool.specs.Sound.{nodesIn, fits, Sized};
+ghost use Rattle.pool.specs.Parts.{Inside, ChainAt};
+ghost use Rattle.pool.specs.Chain.{Free, Took, Gave};
+ghost use Rattle.pool.specs.Find.{Inner, kidLengths};
+use model::Place;
+
+// The layout, as 01's table has it.
+pub const ROOT_WORD: usize = 0;
+
+pub const CHAIN_WORD: usize = 1;
+
+pub const HEAD_WORDS: usize = 2;
+
+pub const NODE_WORDS: usize = 66;
+
+pub const MOST_NODES: usize = 4096;
+
+// Where a node's parts are among its words.
+pub const COUNT: usize = 0;
+
+pub const LENGTH: usize = 1;
+
+pub const ELEMS: usize = 2;
+
+pub const KIDS: usize = 33;
+
+pub const LINK: usize = 65;
+
+// Whether a pool of n words can be one: what so many nodes take, and not too many.
+pub fn length_fits(n: usize) -> bool
+    ensures { λ r. ⌜ r ≡ fits n ⌝ }
+{
+    if n < HEAD_WORDS {
+        return false;
+    }
+    let p = (n - HEAD_WORDS) / NODE_WORDS;
+    n == HEAD_WORDS + NODE_WORDS * p && p <= MOST_NODES
+}
+
+// Where node k starts.
+pub fn start_of(k: usize) -> usize
+    requires { ⌜ (1 ≤ k) × (start k < 2 ^ 64) ⌝ }
+    ensures { λ r. ⌜ r ≡ start k ⌝ }
+{
+    HEAD_WORDS + NODE_WORDS * (k - 1)
+}
+
+// How many elements a node has itself.
+pub fn count_of(node: &[u64]) -> usize
+    requires { ⌜ length (now node) ≡ nodeWords ⌝ }
+    ensures { λ r. ⌜ r ≡ getD (now (node .entry)) 0 0 ⌝ }
+{
+    node[COUNT] as usize
+}
+
+// The source's `len`: how many elements a node has with all below it.
+pub fn len(node: &[u64]) -> usize
+    requires { ⌜ length (now node) ≡ nodeWords ⌝ }
+    ensures { λ r. ⌜ r ≡ getD (now (node .entry)) 1 0 ⌝ }
+{
+    node[LENGTH] as usize
+}
+
+pub fn is_leaf(node: &[u64]) -> bool
+    requires { ⌜ length (now node) ≡ nodeWords ⌝ }
+    ensures { λ r. ⌜ r ≡ eqb (getD (now (node .entry)) 33 0) 0 ⌝ }
+{
+    node[KIDS] == 0
+}
+
+pub fn is_full(node: &[u64]) -> bool
+    requires { ⌜ length (now node) ≡ nodeWords ⌝ }
+    ensures { λ r. ⌜ r ≡ leb 31 (getD (now (node .entry)) 0 0) ⌝ }
+{
+    31 <= node[COUNT]
+}
+
+pub fn elem(node: &[u64], i: usize) -> u64
+    requires { ⌜ length (now node) ≡ nodeWords ⌝ }
+    requires { ⌜ i < 31 ⌝ }
+    ensures { λ r. ⌜ r ≡ getD (now (node .entry)) (2 + i) 0 ⌝ }
+{
+    node[ELEMS + i]
+}
+
+pub fn kid(node: &[u64], c: usize) -> usize
+    requires { ⌜ length (now node) ≡ nodeWords ⌝ }
+    requires { ⌜ c < 32 ⌝ }
+    ensures { λ r. ⌜ r ≡ getD (now (node .entry)) (33 + c) 0 ⌝ }
+{
+    node[KIDS + c] as usize
+}
+
+// The child of a node that an index goes into: an index equal to a child's end goes to that child's end.
+pub fn find_child_index(pool: &[u64], node: &[u64], index: usize) -> Place
+    requires { ⌜ Inner (now pool) (now node) index ⌝ }
+    ensures { λ r. ⌜ r ≡ findIn (kidLengths (now (pool .entry)) (now (node .entry))) index ⌝ }
+{
+    let mut child = 0;
+    let mut sub = index;
+    loop {
+        let a = start_of(kid(node, child));
+        let n = len(&pool[a..a + NODE_WORDS]);
+        if sub <= n {
+            return Place {
+                child,
+                sub,
+                compared: child + 1,
+            };
+        }
+        sub -= n + 1;
+        child += 1;
+    }
+}
+
+// Takes the first free node out of the chain: the one that was freed last.
+pub fn take_node(pool: &mut [u64]) -> usize
+    requires { ⌜ ((f : List ℕ) × Free (now pool) f) ⌝ }
+    ensures { λ r. ⌜ ((f : List ℕ) → Free (now (pool .entry)) f → Took (now (pool .entry)) f r (now (pool .exit))) ⌝ }
+{
+    let k = pool[CHAIN_WORD] as usize;
+    let a = start_of(k);
+    pool[CHAIN_WORD] = pool[a + LINK];
+    pool[a + LINK] = 0;
+    k
+}
+
+// Puts node k in front of the chain, all its words 0 but the link.
+pub fn give_node(pool: &mut [u64], k: usize)
+    requires { ⌜ Inside (now pool) k ⌝ }
+    ensures { λ _. ⌜ ((f : List ℕ) → ChainAt (now (pool .entry)) f → count k f ≡ 0 → Gave (now (pool .entry)) f k (now (pool .exit))) ⌝ }
+{
+    let a = start_of(k);
+    words::clear_run(pool, a, LINK);
+    pool[a + LINK] = pool[CHAIN_WORD];
+    pool[CHAIN_WORD] = k as u64;
+}
+
+// Makes an empty list of any old contents: every node is given to the chain, the first one last.
+pub fn format(pool: &mut [u64])
+    requires { ⌜ Sized (now pool) ⌝ }
+    ensures { λ _. ⌜ now (pool .exit) ≡ words (nodesIn (length (now (pool .entry)))) (empty (nodesIn (length (now (pool .entry))))) ⌝ }
+{
+    pool[ROOT_WORD] = 0;
+    pool[CHAIN_WORD] = 0;
+    let mut k = (pool.len() - HEAD_WORDS) / NODE_WORDS;
+    while 0 < k {
+        give_node(pool, k);
+        k -= 1;
+    }
+}

@@ -1,0 +1,5 @@
+-- The laws of trees that stand in the pool.
+pub mod Standing
+pub mod Way
+pub mod Getting
+pub mod Replacing

@@ -1,0 +1,58 @@
+-- One node of a tree in the pool: its words from the tree, its elements read and replaced.
+use mathlib.Core.Path.{_≡_, sym, ap, ap₂, subst, _∙_}
+use mathlib.Core.List.{List, [], _∷_}
+use Prim.Native.Nat.{ℕ, _+_, _-_, _≤_, _<_}
+use native.Mathlib.Nat.{add-assoc}
+use native.Mathlib.Omega.{arith}
+use lib.ListN.{length, getD, set, take, drop, length-set}
+use Rattle.model.specs.Tree.{Tree, size}
+use Rattle.model.specs.Fit.{Fit}
+use Rattle.model.proofs.Nodes.{most}
+use Rattle.pool.specs.Layout.{nodeWords, start, withBlock, slots, nodeBlock, kidIds, rootBlock}
+use Rattle.pool.specs.Parts.{Stored, At}
+use Rattle.pool.proofs.Block.{block-word}
+use Rattle.pool.proofs.Store.{set-block, block-in}
+use Rattle.pool.proofs.Blocks.{length-slots, most-kids}
+use Rattle.pool.proofs.Slots.{parts, parts-elems, slots-store}
+use Rattle.pool.proofs.Node.{node-elem}
+use Rattle.tree.specs.Node.{Node}
+use Rattle.tree.specs.Lookup.{HasElement, Swapped}
+
+pub as-node : {w : List ℕ} {k : ℕ} (h : ℕ) (t : Tree h) → Stored w k (rootBlock h t) → Stored w k (nodeBlock (size h t) (t .elems) (kidIds h t))
+unfolding rootBlock
+as-node h t S = S
+
+-- a tree's own node
+abbrev pub nodeOf : {w : List ℕ} {id : ℕ} (h : ℕ) (t : Tree h) → t .id ≡ id → At w h t → Fit h t → Node w id
+nodeOf {w} h t e A F = record {
+  size = size h t;
+  elems = t .elems;
+  kids = kidIds h t;
+  stored = subst (λ k. Stored w k (nodeBlock (size h t) (t .elems) (kidIds h t))) e (as-node h t (A .here));
+  few-elems = most h t F;
+  few-kids = most-kids h t F;
+}
+
+-- an element of a block replaced
+node-set : (n : ℕ) (es ks : List ℕ) (i x : ℕ) → length es ≤ 31 → i < length es → set (nodeBlock n es ks) (2 + i) x ≡ nodeBlock n (set es i x) ks
+unfolding nodeBlock
+node-set n es ks i x m l =
+    parts-elems (length es) n (slots 31 es) (slots 32 ks) 0 (length-slots 31 es m) i (x ∷ []) (omega arith)
+    ∙ ap₂ (λ (c : ℕ) (ys : List ℕ). parts c n ys (slots 32 ks) 0) (sym (length-set es i x)) (slots-store 31 es i x l)
+
+module _ {w : List ℕ} {k i : ℕ} (s : HasElement w k i) (a : ℕ) (ea : a ≡ start k) where
+  pub reads : (x : ℕ) → x ≡ getD (take (a + nodeWords - a) (drop a w)) (2 + i) 0 → x ≡ getD (s .node .elems) i 0
+  reads x e =
+      let m = s .node in
+      e ∙ rw (block-in w a k ea, m .stored .is) (node-elem (m .size) (m .elems) (m .kids) i (omega (arith, m .few-elems, s .below)))
+
+  pub swaps : (x old : ℕ) → old ≡ getD w (a + 2 + i) 0 → Swapped w (set w (a + 2 + i) x) k i x (s .node) old
+  swaps x old e =
+      let m = s .node in
+      let l : i < 31 = omega (arith, m .few-elems, s .below) in
+      record {
+        given = e ∙ rw (ea, add-assoc (start k) 2 i, ← (block-word w k (2 + i) (omega arith)), m .stored .is)
+            (node-elem (m .size) (m .elems) (m .kids) i l);
+        words = rw (ea, add-assoc (start k) 2 i, set-block w k (m .stored .inside) (2 + i) x (omega arith), m .stored .is)
+            (ap (λ (b : List ℕ). withBlock w k b) (node-set (m .size) (m .elems) (m .kids) i x (m .few-elems) (s .below)));
+      }

@@ -1,0 +1,14 @@
+-- `element` meets its contract: the node's words are lent, and the element stands at its place among them.
+use borrow.Author.Needs.{needs}
+use Rattle.tree.proofs.Standing.{reads}
+use Rattle.tree.proofs.element.Statement.{statement}
+use Rattle.tree.proofs.element.Tie as tie
+
+returns : tie.Need-returns
+returns c s = reads s _ (c .before .before .start-of .ensures) _ (c .elem .ensures)
+
+pub element-spec : {M : Type 1} → statement M
+element-spec =
+    tie.close
+    (tie.spec (λ c κs. search needs) (λ c. search needs) (λ c. search needs) (λ c. search needs) (λ c. search needs) (λ c. search needs)
+    (λ c κs. search needs) returns)

@@ -1,0 +1,3 @@
+pub mod Node
+pub mod Stands
+pub mod Lookup
