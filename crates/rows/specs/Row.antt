@@ -1,29 +1,33 @@
 -- A row of 01's bench examples, and the test that says whether it holds.
 use mathlib.Core.List.{List, [], _∷_, map}
-use mathlib.Core.Bool.{Bool, true, false, _&&_}
+use mathlib.Core.Bool.{Bool, true, false, not, _&&_}
 use Prim.Native.Nat.{ℕ, zero, suc}
 use lib.Dec.{eqb}
+use lib.ListN.{take}
 use Rattle.lists.specs.Lists.{concat}
+use Rattle.words.specs.Words.{run}
 use Rattle.model.specs.declared.Answer.{Answer}
 use Rattle.model.specs.Tree.{Tree, Root, bare, rooted, Bag, empty}
-use Rattle.model.specs.Calls.{Outcome, insertCall, pushCall, getCall, replaceCall, removeCall}
+use Rattle.pool.specs.Layout.{headWords, block, nodeBlock, freeBlock, words}
+use Rattle.pool.specs.Sound.{nodesIn, fits}
+use Rattle.model.specs.Calls.{Outcome, insertCall, pushCall, getCall, removeCall}
 
 pub data Call : Type 0 where
   push get remove : ℕ → Call
-  insert replace : ℕ → ℕ → Call
+  insert : ℕ → ℕ → Call
 
-unfoldable pub run : Call → Bag → Outcome Answer
-unfolding pushCall insertCall getCall replaceCall removeCall
-run (push x) b = pushCall x b
-run (get i) b = getCall i b
-run (remove i) b = removeCall i b
-run (insert i x) b = insertCall i x b
-run (replace i x) b = replaceCall i x b
+-- what a call answers and leaves, and the bag that some calls leave
+unfoldable pub ask : Call → Bag → Outcome Answer
+unfolding pushCall insertCall getCall removeCall
+ask (push x) b = pushCall x b
+ask (get i) b = getCall i b
+ask (remove i) b = removeCall i b
+ask (insert i x) b = insertCall i x b
 
-unfoldable pub runs : List Call → Bag → Bag
-unfolding run
-runs [] b = b
-runs (c ∷ cs) b = runs cs (run c b .bag)
+unfoldable pub left : List Call → Bag → Bag
+unfolding ask
+left [] b = b
+left (c ∷ cs) b = left cs (ask c b .bag)
 
 -- each node from the root on, left to right: its id, then its elements
 unfoldable pub nodesOf : (h : ℕ) → Tree h → List (List ℕ)
@@ -36,9 +40,16 @@ unfolding nodesOf
 shape bare = []
 shape (rooted h t) = nodesOf h t
 
--- `after p calls c a nodes free`: in a pool of p nodes after the calls, call c gives a and leaves these nodes and this chain
 pub data Row : Type 0 where
+  -- a pool of n words has p nodes; or n fits no pool
+  nodes : ℕ → ℕ → Row
+  misfit : ℕ → Row
+  -- in a pool of p nodes after some calls, one more gives an answer, and leaves these nodes and this chain
   after : ℕ → List Call → Call → Answer → List (List ℕ) → List ℕ → Row
+  -- there the head is this, and node k's words are those of these elements and children, n elements in all, or of a free node
+  heads : ℕ → List Call → List ℕ → Row
+  inTree : ℕ → List Call → ℕ → ℕ → List ℕ → List ℕ → Row
+  isFree : ℕ → List Call → ℕ → ℕ → Row
 
 -- ---- the test
 
@@ -51,11 +62,20 @@ sameBy same (x ∷ xs) (y ∷ ys) = same x y && sameBy same xs ys
 unfoldable pub sameAnswer : Answer → Answer → Bool
 sameAnswer a b = eqb (a .number) (b .number) && eqb (a .value) (b .value) && eqb (a .compared) (b .compared)
 
+-- the words of a pool of p nodes after the calls
+abbrev pub pool : ℕ → List Call → List ℕ
+pool p calls = words p (left calls (empty p))
+
 unfoldable pub holds : Row → Bool
-unfolding runs empty shape sameBy sameAnswer
-holds (after p calls c a nodes free) =
-    let o = run c (runs calls (empty p)) in
-    sameAnswer (o .answer) a && sameBy (sameBy eqb) (shape (o .bag .root)) nodes && sameBy eqb (o .bag .free) free
+unfolding left empty shape sameBy sameAnswer fits words block run nodeBlock freeBlock
+holds (nodes n p) = fits n && eqb (nodesIn n) p
+holds (misfit n) = not (fits n)
+holds (after p calls c a ns f) =
+    let o = ask c (left calls (empty p)) in
+    sameAnswer (o .answer) a && sameBy (sameBy eqb) (shape (o .bag .root)) ns && sameBy eqb (o .bag .free) f
+holds (heads p calls xs) = sameBy eqb (take headWords (pool p calls)) xs
+holds (inTree p calls k n es ks) = sameBy eqb (block (pool p calls) k) (nodeBlock n es ks)
+holds (isFree p calls k next) = sameBy eqb (block (pool p calls) k) (freeBlock next)
 
 unfoldable pub allHold : List Row → Bool
 unfolding holds
