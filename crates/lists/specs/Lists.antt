@@ -1,6 +1,6 @@
 -- What `Vec` says of a list, and the few list functions that the trees want.
 use mathlib.Core.List.{List, [], _∷_, _++_}
-use mathlib.Core.Bool.{cond}
+use mathlib.Core.Bool.{Bool, true, false, cond, _&&_}
 use Prim.Native.Nat.{ℕ, zero, suc, _+_, _-_}
 use lib.Dec.{eqb}
 use lib.ListN.{length, take, drop, getD}
@@ -31,6 +31,13 @@ sum (x ∷ xs) = x + sum xs
 unfoldable pub count : ℕ → List ℕ → ℕ
 count k [] = 0
 count k (x ∷ xs) = cond (eqb k x) 1 0 + count k xs
+
+-- whether two lists are the same
+unfoldable pub same : List ℕ → List ℕ → Bool
+same [] [] = true
+same [] (y ∷ ys) = false
+same (x ∷ xs) [] = false
+same (x ∷ xs) (y ∷ ys) = eqb x y && same xs ys
 
 -- the n numbers from k on
 unfoldable pub from : ℕ → ℕ → List ℕ

@@ -27,6 +27,17 @@ nodes-inner : (h : ℕ) (t : Tree (suc h)) → nodes (suc h) t ≡ 1 + total (no
 unfolding ids
 nodes-inner h t = omega (arith, measure-concat length refl length-append (ids h) (t .kids))
 
+-- at most 31 elements in each node
+pub size-most : (h : ℕ) (t : Tree h) → Fit h t → size h t ≤ 31 * nodes h t
+unfolding size ids
+size-most zero t F = omega arith
+size-most (suc h) t F =
+    omega (arith, nodes-inner h t, summed (all-map (λ k p. size-most h k (p .fit)) (shape (suc h) t F .children)))
+  where
+    summed : {ks : List (Tree h)} → All (λ k. size h k ≤ 31 * nodes h k) ks → total (size h) ks ≤ 31 * total (nodes h) ks
+    summed nil = omega arith
+    summed (cons p ps) = omega (arith, summed ps)
+
 -- what it needs for a child k that its index j goes into: a child has 15 elements for itself and, if full, 15 for its other half
 room-child : (h : ℕ) (k : Tree h) (j : ℕ) → 15 ≤ length (k .elems)
     → 15 * (nodes h k + neededBelow h k j) + length (k .elems) ≤ size h k + 15

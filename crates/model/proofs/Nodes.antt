@@ -30,6 +30,12 @@ pub held-id : (h k : ℕ) (t : Tree h) → count k (t .id ∷ []) ≤ held h k t
 held-id zero k t = unfold ids in omega arith
 held-id (suc h) k t = omega (arith, held-inner h k t)
 
+-- a tree's own node is the first of its nodes
+pub same-id : (h : ℕ) (s t : Tree h) → ids h s ≡ ids h t → s .id ≡ t .id
+unfolding ids
+same-id zero s t e = ap (λ (is : List ℕ). getD is 0 0) e
+same-id (suc h) s t e = ap (λ (is : List ℕ). getD is 0 0) e
+
 -- a node and one of its children
 pub held-kid : (h k : ℕ) (t : Tree (suc h)) (c : ℕ) → c < length (t .kids) → count k (t .id ∷ []) + held h k (kid h t c) ≤ held (suc h) k t
 held-kid h k t c l = omega (arith, held-inner h k t, total-at (held h k) (t .kids) c (none h) l)

@@ -130,6 +130,11 @@ unfolding ids
 rootIds bare = []
 rootIds (rooted h t) = ids h t
 
+-- its inner levels
+unfoldable pub levelsOf : Root → ℕ
+levelsOf bare = 0
+levelsOf (rooted h t) = h
+
 -- how often node k is met, from the root and among the free nodes
 abbrev pub met : ℕ → Bag → ℕ
 met k b = count k (rootIds (b .root)) + count k (b .free)

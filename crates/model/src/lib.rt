@@ -37,3 +37,17 @@ pub struct Answer {
     pub value: u64,
     pub compared: u64,
 }
+
+// A walk's answer: 01's number, the element, and the position that the walk has then.
+pub struct Walked {
+    pub number: u64,
+    pub element: u64,
+    pub position: u64,
+}
+
+// A stretch of one node's elements: the node, the first one's place in it, and how many.
+pub struct Stretch {
+    pub node: usize,
+    pub slot: usize,
+    pub count: usize,
+}

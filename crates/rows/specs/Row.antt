@@ -4,23 +4,23 @@ use mathlib.Core.Bool.{Bool, true, false, not, _&&_}
 use Prim.Native.Nat.{ℕ, zero, suc}
 use lib.Dec.{eqb}
 use lib.ListN.{take}
-use Rattle.lists.specs.Lists.{concat}
+use Rattle.lists.specs.Lists.{concat, same}
 use Rattle.words.specs.Words.{run}
 use Rattle.model.specs.declared.Answer.{Answer}
 use Rattle.model.specs.Tree.{Tree, Root, bare, rooted, Bag, empty}
 use Rattle.pool.specs.Layout.{headWords, block, nodeBlock, freeBlock, words}
 use Rattle.pool.specs.Sound.{nodesIn, fits}
-use Rattle.model.specs.Calls.{Outcome, insertCall, pushCall, getCall, removeCall}
+use Rattle.model.specs.Calls.{Outcome, outcome, insertCall, pushCall, getCall, removeCall}
 
 pub data Call : Type 0 where
   push get remove : ℕ → Call
   insert : ℕ → ℕ → Call
 
 -- what a call answers and leaves, and the bag that some calls leave
-unfoldable pub ask : Call → Bag → Outcome Answer
+unfoldable pub ask : Call → Bag → Outcome
 unfolding pushCall insertCall getCall removeCall
 ask (push x) b = pushCall x b
-ask (get i) b = getCall i b
+ask (get i) b = outcome (getCall i b) b
 ask (remove i) b = removeCall i b
 ask (insert i x) b = insertCall i x b
 
@@ -53,11 +53,12 @@ pub data Row : Type 0 where
 
 -- ---- the test
 
-unfoldable pub sameBy : {A : Type 0} → (A → A → Bool) → List A → List A → Bool
-sameBy same [] [] = true
-sameBy same [] (y ∷ ys) = false
-sameBy same (x ∷ xs) [] = false
-sameBy same (x ∷ xs) (y ∷ ys) = same x y && sameBy same xs ys
+unfoldable pub sameNodes : List (List ℕ) → List (List ℕ) → Bool
+unfolding same
+sameNodes [] [] = true
+sameNodes [] (y ∷ ys) = false
+sameNodes (x ∷ xs) [] = false
+sameNodes (x ∷ xs) (y ∷ ys) = same x y && sameNodes xs ys
 
 unfoldable pub sameAnswer : Answer → Answer → Bool
 sameAnswer a b = eqb (a .number) (b .number) && eqb (a .value) (b .value) && eqb (a .compared) (b .compared)
@@ -67,15 +68,15 @@ abbrev pub pool : ℕ → List Call → List ℕ
 pool p calls = words p (left calls (empty p))
 
 unfoldable pub holds : Row → Bool
-unfolding left empty shape sameBy sameAnswer fits words block run nodeBlock freeBlock
+unfolding left empty shape sameNodes sameAnswer fits words block run nodeBlock freeBlock
 holds (nodes n p) = fits n && eqb (nodesIn n) p
 holds (misfit n) = not (fits n)
 holds (after p calls c a ns f) =
     let o = ask c (left calls (empty p)) in
-    sameAnswer (o .answer) a && sameBy (sameBy eqb) (shape (o .bag .root)) ns && sameBy eqb (o .bag .free) f
-holds (heads p calls xs) = sameBy eqb (take headWords (pool p calls)) xs
-holds (inTree p calls k n es ks) = sameBy eqb (block (pool p calls) k) (nodeBlock n es ks)
-holds (isFree p calls k next) = sameBy eqb (block (pool p calls) k) (freeBlock next)
+    sameAnswer (o .answer) a && sameNodes (shape (o .bag .root)) ns && same (o .bag .free) f
+holds (heads p calls xs) = same (take headWords (pool p calls)) xs
+holds (inTree p calls k n es ks) = same (block (pool p calls) k) (nodeBlock n es ks)
+holds (isFree p calls k next) = same (block (pool p calls) k) (freeBlock next)
 
 unfoldable pub allHold : List Row → Bool
 unfolding holds

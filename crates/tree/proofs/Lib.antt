@@ -2,4 +2,6 @@
 pub mod Standing
 pub mod Way
 pub mod Getting
+pub mod Spanning
 pub mod Replacing
+pub mod Edits

@@ -12,7 +12,7 @@ use Rattle.lists.specs.Lists.{count, sum}
 use Rattle.lists.proofs.Counts.{count-self}
 use Rattle.model.specs.declared.Found.{Found}
 use Rattle.model.specs.Tree.{Tree, none, kid, size, ids, flat, find, withKid, withElem, get, replace}
-use Rattle.model.proofs.Nodes.{held, held-id, held-kid, held-kids, flat-length}
+use Rattle.model.proofs.Nodes.{same-id, held, held-id, held-kid, held-kids, flat-length}
 use Rattle.model.proofs.Get.{get-separator, get-inside, replace-separator, replace-inside, replace-law}
 use Rattle.pool.specs.Layout.{chainWord, nodeWords, withBlock, nodeBlock, idOf, kidIds, rootBlock}
 use Rattle.pool.specs.Parts.{At, KidsAt}
@@ -122,11 +122,6 @@ block-kid : (h : ℕ) (t : Tree (suc h)) (c : ℕ) (s : Tree h) → s .id ≡ ki
 unfolding rootBlock size kidIds
 block-kid h t c s e f =
     rw (map-set-same (idOf h) (t .kids) c s (none h) e, map-set-same (size h) (t .kids) c s (none h) f)
-
-same-id : (h : ℕ) (s t : Tree h) → ids h s ≡ ids h t → s .id ≡ t .id
-unfolding ids
-same-id zero s t e = ap (λ (is : List ℕ). getD is 0 0) e
-same-id (suc h) s t e = ap (λ (is : List ℕ). getD is 0 0) e
 
 module _ {w : List ℕ} {id index l : ℕ} (s : Has w (suc l) id index) (r : Turn) (T : Turned w id index r) (f : r .separator ≡ false) where
   inside-replaced : (w′ : List ℕ) (x old : ℕ) → ((q : Has w l (r .id) (r .sub)) → Replaced w w′ l (q .stands .tree) (r .sub) x old)

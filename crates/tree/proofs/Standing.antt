@@ -33,6 +33,10 @@ nodeOf {w} h t e A F = record {
   few-kids = most-kids h t F;
 }
 
+pub counts : {w : List ℕ} {k : ℕ} (m : Node w k) (a n : ℕ) → a ≡ start k → n ≡ getD (take (a + nodeWords - a) (drop a w)) 0 0 → n ≡ length (m .elems)
+unfolding nodeBlock
+counts {w} {k} m a n ea e = e ∙ rw (block-in w a k ea, m .stored .is)
+
 -- an element of a block replaced
 node-set : (n : ℕ) (es ks : List ℕ) (i x : ℕ) → length es ≤ 31 → i < length es → set (nodeBlock n es ks) (2 + i) x ≡ nodeBlock n (set es i x) ks
 unfolding nodeBlock

@@ -4,6 +4,8 @@ use mathlib.Core.List.{List}
 use Prim.Native.Nat.{ℕ, suc, _≤_, _<_}
 use lib.ListN.{length, getD, set}
 use Rattle.model.specs.declared.Found.{Found}
+use Rattle.model.specs.declared.Stretch.{Stretch}
+use Rattle.model.specs.Calls.{stretch}
 use Rattle.model.specs.Tree.{Tree, kid, size, ids, find, atSeparator, get, replace}
 use Rattle.pool.specs.Layout.{chainWord, nodeBlock, withBlock}
 use Rattle.pool.specs.Parts.{At}
@@ -34,6 +36,9 @@ pub record Has (w : List ℕ) (h id index : ℕ) : Type 0 where
 -- what is found is what the model finds
 abbrev pub Got : List ℕ → ℕ → ℕ → ℕ → Found → Type 0
 Got w h id index r = (s : Has w h id index) → r ≡ get h (s .stands .tree) index
+
+abbrev pub Spans : List ℕ → ℕ → ℕ → ℕ → Stretch → Type 0
+Spans w h id index r = (s : Has w h id index) → r ≡ stretch h (s .stands .tree) index
 
 -- node k has element i
 pub record HasElement (w : List ℕ) (k i : ℕ) : Type 0 where

@@ -4,7 +4,7 @@ use mathlib.Core.List.{List, _++_}
 use Prim.Native.Nat.{ℕ, _+_, _^_, _≤_, _<_}
 use lib.ListN.{length}
 use Rattle.lists.specs.Lists.{count}
-use Rattle.model.specs.Tree.{Tree, size, ids, Root, bare, rooted, Bag, listOf, rootIds, met}
+use Rattle.model.specs.Tree.{Tree, size, ids, Root, bare, rooted, Bag, listOf, rootIds, levelsOf, met}
 use Rattle.model.specs.Fit.{Fit, FitTree, FitRoot}
 use Rattle.pool.specs.Layout.{rootId}
 use Rattle.pool.specs.Parts.{At, RootAt, ChainAt}
@@ -37,10 +37,6 @@ pub record Reshaped (w w′ : List ℕ) (h : ℕ) (t : Tree h) (f : List ℕ) (s
   pub untouched : Untouched w w′ (ids h t ++ f)
 
 -- ---- a whole bag, but for the root word, which is the caller's
-
-unfoldable pub levelsOf : Root → ℕ
-levelsOf bare = 0
-levelsOf (rooted h t) = h
 
 abbrev pub knownOf : Bag → Known
 knownOf b = record { root = rootId (b .root); levels = levelsOf (b .root); free = length (b .free) }

@@ -1,8 +1,10 @@
 // Lookup and replacement in a tree that is known to stand in the pool.
 ghost use mathlib.Core.Path.{_≡_};
-ghost use lib.ListN.{getD};
-ghost use Rattle.tree.specs.Lookup.{Above, Turns, Has, Got, HasElement, Swapped, Replaced};
+ghost use lib.ListN.{length, getD};
+ghost use Rattle.tree.specs.Node.{Node};
+ghost use Rattle.tree.specs.Lookup.{Above, Turns, Has, Got, Spans, HasElement, Swapped, Replaced};
 use model::Found;
+use model::Stretch;
 use pool::ELEMS;
 use pool::NODE_WORDS;
 
@@ -20,6 +22,15 @@ pub struct Turn {
     pub compared: usize,
     pub id: usize,
     pub separator: bool,
+}
+
+// How many elements node k has.
+pub fn elements(pool: &[u64], k: usize) -> usize
+    requires { ⌜ Node (now pool) k ⌝ }
+    ensures { λ r. ⌜ ((m : Node (now (pool .entry)) k) → r ≡ length (m .elems)) ⌝ }
+{
+    let a = pool::start_of(k);
+    pool::count_of(&pool[a..a + NODE_WORDS])
 }
 
 // Element i of node k.
@@ -90,6 +101,30 @@ pub fn get(pool: &[u64], id: usize, levels: usize, index: usize) -> Found
         element: below.element,
         compared: t.compared + below.compared,
     }
+}
+
+// Where the element at an index stands, with those after it in the same leaf; an inner node's by itself.
+pub fn stretch(pool: &[u64], id: usize, levels: usize, index: usize) -> Stretch
+    requires { ⌜ Has (now pool) levels id index ⌝ }
+    ensures { λ r. ⌜ Spans (now (pool .entry)) levels id index r ⌝ }
+{
+    if levels == 0 {
+        let n = elements(pool, id);
+        return Stretch {
+            node: id,
+            slot: index,
+            count: n - index,
+        };
+    }
+    let t = way_to(pool, id, index);
+    if t.separator {
+        return Stretch {
+            node: id,
+            slot: t.child,
+            count: 1,
+        };
+    }
+    stretch(pool, t.id, levels - 1, t.sub)
 }
 
 // Puts x in the place of the element at an index, and gives the old one.

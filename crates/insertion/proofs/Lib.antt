@@ -1,0 +1,9 @@
+-- The laws of insertion.
+pub mod Nodes
+pub mod Halves
+pub mod Splitting
+pub mod Rooms
+pub mod Inserting
+pub mod Needing
+pub mod Rooting
+pub mod Whole

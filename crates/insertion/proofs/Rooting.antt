@@ -1,0 +1,214 @@
+-- The whole list: its root as the caller knows it, a full root raised, and what stands after an insertion.
+use mathlib.Core.Path.{_≡_, refl, sym, ap, ap₂, subst, _∙_}
+use mathlib.Core.Bool.{Bool, true, false}
+use mathlib.Core.List.{List, [], _∷_, _++_}
+use mathlib.Core.Logic.{_≢_}
+use Prim.Native.Nat.{ℕ, suc, _+_, _^_, _≤_, _<_}
+use native.Mathlib.Omega.{arith}
+use lib.ListN.{length, getD, drop, length-drop}
+use lib.Seq.{getD-drop, drop-drop}
+use Rattle.lists.specs.Lists.{sum, count}
+use Rattle.lists.proofs.All.{nil, cons, all-at}
+use Rattle.lists.proofs.Counts.{count-append}
+use Rattle.model.specs.Tree.{Tree, none, size, ids, Root, bare, rooted, Bag, listOf, rootIds, levelsOf}
+use Rattle.model.specs.Insert.{isFull, splitChild, needed}
+use Rattle.model.proofs.Nodes.{node, held, held-inner, fits, child, flat-length}
+use Rattle.model.proofs.Insert.{full}
+use Rattle.pool.specs.Layout.{withBlock, nodeBlock, kidIds, rootBlock, rootId}
+use Rattle.pool.specs.Parts.{Inside, At, RootAt, lengthAt}
+use Rattle.pool.specs.Chain.{Free, Took}
+use Rattle.pool.proofs.Blocks.{length-nodeBlock}
+use Rattle.pool.proofs.Node.{at-length}
+use Rattle.pool.proofs.Frame.{at-untouched, untouched-both}
+use Rattle.tree.specs.declared.Known.{Known}
+use Rattle.tree.specs.Node.{Node}
+use Rattle.tree.proofs.Standing.{nodeOf}
+use Rattle.tree.proofs.Edits.{first-free, count-same, stored-same, chain-untouched, untouched-more, Wrote, wrote}
+use Rattle.tree.specs.Stands.{Owns, Reshaped, knownOf, BagStands}
+use Rattle.insertion.specs.Ready.{SplitReady, BagReady}
+use Rattle.insertion.specs.Steps.{Upto, RaiseReady, Raised}
+use Rattle.insertion.proofs.Needing.{Told, Needs, few-below}
+
+-- ---- the root as the caller knows it
+
+-- the list has a root, with its tree
+pub record Rooted (w : List ℕ) (known : Known) (index : ℕ) (b : Bag) : Type 0 where
+  pub tree : Tree (known .levels)
+  pub is : b .root ≡ rooted (known .levels) tree
+  pub here : tree .id ≡ known .root
+  pub owns : Owns w (known .levels) tree (b .free)
+  pub some : 1 ≤ length (tree .elems)
+  pub upto : index ≤ size (known .levels) tree
+
+module _ {w : List ℕ} {known : Known} {index : ℕ} (b : BagReady w known index) where
+  pub free-count : known .free ≡ length (b .bag .free)
+  free-count = ap (λ (k : Known). k .free) (b .is)
+
+  pub is-bare : known .root ≡ 0 → b .bag .root ≡ bare
+  unfolding rootId
+  is-bare e = go (b .bag .root) (b .stands .tree) (sym (ap (λ (k : Known). k .root) (b .is)) ∙ e)
+    where
+      go : (r : Root) → RootAt w r → rootId r ≡ 0 → r ≡ bare
+      go bare A z = refl
+      go (rooted h t) A z = absurd (omega (arith, A .here .inside .some))
+
+  pub is-rooted : known .root ≢ 0 → Rooted w known index (b .bag)
+  unfolding rootId levelsOf listOf rootIds
+  is-rooted ne = go (b .bag .root) (b .bag .free) (b .stands) (b .upto) (b .is) ne
+    where
+      go : (r : Root) (f : List ℕ) → BagStands w (record { root = r; free = f }) → index ≤ length (listOf r)
+          → known ≡ knownOf (record { root = r; free = f }) → known .root ≢ 0 → Rooted w known index (record { root = r; free = f })
+      go bare f S l e ne = absurd (ne (ap (λ (k : Known). k .root) e))
+      go (rooted h t) f S l e ne =
+          let n = flat-length h t (S .fit .fit) in
+          subst (λ (k : Known). Rooted w k index (record { root = rooted h t; free = f })) (sym e) (record {
+            tree = t;
+            is = refl;
+            here = refl;
+            owns = record { at = S .tree; fit = S .fit .fit; chain = S .chain; once = S .once; small = omega (arith, S .small) };
+            some = S .fit .some;
+            upto = omega arith;
+          })
+
+module _ {w : List ℕ} {known : Known} {index : ℕ} {b : Bag} (R : Rooted w known index b) where
+  abbrev h : ℕ
+  h = known .levels
+
+  abbrev t : Tree h
+  t = R .tree
+
+  abbrev pub root-upto : Upto w (known .levels) (known .root) index
+  root-upto = record {
+    stands = record {
+      tree = t;
+      here = R .here;
+      at = R .owns .at;
+      fit = record { some = R .some; fit = R .owns .fit };
+      once = λ k. omega (arith, R .owns .once k);
+      small = R .owns .small;
+    };
+    upto = R .upto;
+  }
+
+  abbrev pub root-node : Node w (known .root)
+  root-node = nodeOf h t (R .here) (R .owns .at) (R .owns .fit)
+
+  -- ---- the nodes needed
+
+  module _ (n : ℕ) (N : Needs w (known .levels) (known .root) index n) where
+    pub root-few : n < 2 ^ 32
+    root-few = rw (N root-upto) (few-below h t (record { some = R .some; fit = R .owns .fit }) (R .owns .small) index (R .upto))
+
+    module _ (a : Bool) (A : Told w (known .root) a) where
+      full-root : isFull h t ≡ a
+      unfolding isFull
+      full-root = sym (A root-node)
+
+      pub needs-two : a ≡ true → 2 + n ≡ needed (b .root) index
+      unfolding needed
+      needs-two e = ap (λ (m : ℕ). 2 + m) (N root-upto) ∙ sym (ap (λ (r : Root). needed r index) (R .is) ∙ rw (full-root ∙ e) refl)
+
+      pub needs-none : a ≡ false → n ≡ needed (b .root) index
+      unfolding needed
+      needs-none e = N root-upto ∙ sym (ap (λ (r : Root). needed r index) (R .is) ∙ rw (full-root ∙ e) (omega arith))
+
+pub needs-one : {w : List ℕ} {known : Known} {index : ℕ} → known .root ≡ 0 → (b : BagReady w known index) → 1 ≡ needed (b .bag .root) index
+unfolding needed
+needs-one {index = index} e b = sym (ap (λ (r : Root). needed r index) (is-bare b e))
+
+-- ---- a full root goes under a new one
+
+module _ {w : List ℕ} {old : ℕ} (S : RaiseReady w old) where
+  abbrev h₁ : ℕ
+  h₁ = S .height
+
+  abbrev t₁ : Tree h₁
+  t₁ = S .tree
+
+  abbrev f₁ : List ℕ
+  f₁ = S .free
+
+  pub old-inside : Inside w old
+  old-inside = subst (Inside w) (S .here) (S .owns .at .here .inside)
+
+  pub old-free : Free w f₁
+  old-free = record { chain = S .owns .chain; once = λ k. omega (arith, S .owns .once k); some = omega (arith, S .two) }
+
+  module _ (n root : ℕ) (w₁ : List ℕ) (en : n ≡ lengthAt w old) (et : (f : List ℕ) → Free w f → Took w f root w₁) where
+    pub T : Took w f₁ root w₁
+    T = et f₁ old-free
+
+    -- the root, the tree and the other free nodes have no node twice
+    pub once : (k : ℕ) → count k (root ∷ []) + held h₁ k t₁ + count k (drop 1 f₁) ≤ 1
+    once k = omega (arith, S .owns .once k, first-free k f₁ (omega (arith, S .two)), count-same k (T .first))
+
+    module _ (w₂ : List ℕ) (e₂ : w₂ ≡ withBlock w₁ root (nodeBlock n [] (old ∷ []))) where
+      abbrev o : Tree (suc h₁)
+      o = node root [] (t₁ ∷ [])
+
+      W : Wrote w₁ w₂ root (nodeBlock n [] (old ∷ []))
+      W = wrote e₂ (T .clean .inside) (length-nodeBlock n [] (old ∷ []) (omega arith) (omega arith))
+
+      o-size : size (suc h₁) o ≡ size h₁ t₁
+      unfolding size sum
+      o-size = omega arith
+
+      o-block : nodeBlock n [] (old ∷ []) ≡ rootBlock (suc h₁) o
+      unfolding rootBlock kidIds
+      o-block =
+          let e : n ≡ size (suc h₁) o = en ∙ sym (ap (lengthAt w) (S .here)) ∙ at-length w h₁ t₁ (S .owns .at .here) ∙ sym o-size in
+          ap₂ (λ (m j : ℕ). nodeBlock m [] (j ∷ [])) e (sym (S .here))
+
+      o-held : (k : ℕ) → held (suc h₁) k o ≡ count k (root ∷ []) + held h₁ k t₁
+      unfolding sum
+      o-held k = omega (arith, held-inner h₁ k o)
+
+      o-at : At w₂ h₁ t₁
+      o-at =
+          at-untouched (W .untouched) h₁ t₁ (λ k l. omega (arith, once k))
+          (at-untouched (T .untouched) h₁ t₁ (λ k l. omega (arith, once k)) (S .owns .at))
+
+      pub o-owns : Owns w₂ (suc h₁) o (drop 1 f₁)
+      o-owns = record {
+        at = record { here = stored-same refl o-block (W .stored); each = all-at {P = At w₂ h₁} (none h₁) (cons o-at nil) };
+        fit = fits (suc h₁) o (record {
+          one-more = omega arith;
+          children = cons (child h₁ t₁ (S .owns .fit) (omega (arith, S .full))) nil;
+        }) (omega arith);
+        chain = chain-untouched (W .untouched) (λ k l. omega (arith, once k)) (W .chain) (T .chain);
+        once = λ k. omega (arith, once k, o-held k);
+        small = omega (arith, o-size, S .owns .small);
+      }
+
+      abbrev pub root-splits : SplitReady w₂ root 0
+      root-splits = record {
+        height = h₁;
+        tree = o;
+        free = drop 1 f₁;
+        owns = o-owns;
+        here = refl;
+        place = omega arith;
+        full = S .full;
+        room = omega arith;
+        some = omega (arith, length-drop 1 f₁, S .two);
+      }
+
+      pub root-raised : (w₃ : List ℕ)
+          → Reshaped w₂ w₃ (suc h₁) o (drop 1 f₁) (splitChild h₁ o 0 (getD (drop 1 f₁) 0 0)) (drop 1 (drop 1 f₁))
+          → Raised w w₃ h₁ t₁ f₁ root
+      root-raised w₃ Q = record {
+        first = T .first;
+        at = rw (← (T .first), ← (getD-drop 1 f₁ 0 0)) (Q .at);
+        chain = rw (drop-drop 1 1 f₁) at (Q .chain);
+        untouched = untouched-more (untouched-both (untouched-both (T .untouched) (W .untouched)) (Q .untouched)) (λ k z.
+            omega (
+              arith,
+              count-append k (ids h₁ t₁) f₁,
+              first-free k f₁ (omega (arith, S .two)),
+              count-same k (T .first),
+              count-append k (root ∷ []) (root ∷ []),
+              count-append k ((root ∷ []) ++ (root ∷ [])) (ids (suc h₁) o ++ drop 1 f₁),
+              count-append k (ids (suc h₁) o) (drop 1 f₁),
+              o-held k,
+            ));
+      }

@@ -1,0 +1,246 @@
+-- Insertion into the whole list: refused, into an empty list, under a root with room, and under a full root.
+use mathlib.Core.Path.{_≡_, refl, sym, ap, subst, _∙_}
+use mathlib.Core.Bool.{Bool, true, false}
+use mathlib.Core.List.{List, [], _∷_, _++_}
+use mathlib.Core.Logic.{_≢_}
+use Prim.Native.Nat.{ℕ, suc, _+_, _-_, _^_, _≤_, _<_}
+use native.Mathlib.Numerals.{add-one}
+use native.Mathlib.Omega.{arith}
+use lib.ListN.{length, getD, drop, length-drop}
+use Rattle.lists.specs.Lists.{count, insertAt}
+use Rattle.lists.proofs.Counts.{count-append}
+use Rattle.model.specs.Tree.{Tree, size, ids, Root, rooted, Bag, rootIds, levelsOf}
+use Rattle.model.specs.Insert.{isFull, Grown, insertNonFull, neededBelow, needed, aboveRoot, grownBag, bagInsert}
+use Rattle.model.proofs.Nodes.{node, most}
+use Rattle.model.proofs.Insert.{full, not-full}
+use Rattle.model.proofs.Bags.{bag-insert}
+use Rattle.model.proofs.Bounds.{levels-few}
+use Rattle.pool.specs.Layout.{withBlock, nodeBlock, kidIds, rootBlock, rootId}
+use Rattle.pool.specs.Parts.{Stored, At, ChainAt}
+use Rattle.pool.specs.Chain.{Untouched, Free, Took}
+use Rattle.pool.proofs.Blocks.{length-nodeBlock}
+use Rattle.pool.proofs.Frame.{untouched-both}
+use Rattle.tree.specs.declared.Known.{Known}
+use Rattle.tree.specs.Stands.{Became}
+use Rattle.tree.proofs.Edits.{first-free, count-same, stored-same, chain-untouched, untouched-more, Wrote, wrote}
+use Rattle.insertion.specs.Nodes.{Takes}
+use Rattle.insertion.specs.Ready.{InsertReady, BagReady, Inserts}
+use Rattle.insertion.specs.Steps.{RaiseReady, Raised}
+use Rattle.insertion.proofs.Needing.{Told}
+use Rattle.insertion.proofs.Inserting.{Inserts as Inserted}
+use Rattle.insertion.proofs.Rooms.{insert-id, lift-law, Lifted, bag-bare, bag-room, bag-full}
+use Rattle.insertion.proofs.Rooting.{Rooted, free-count, is-bare, is-rooted, root-node, needs-one}
+
+-- the bag that b became has this root and these free nodes
+grown : {w w′ : List ℕ} {b d : Bag} (h : ℕ) (g : Grown (Tree h)) (k : Known) → d ≡ grownBag h g → k .root ≡ g .tree .id → k .levels ≡ h
+    → k .free ≡ length (d .free) → At w′ h (g .tree) → ChainAt w′ (g .free) → Untouched w w′ (rootIds (b .root) ++ b .free)
+    → Became w w′ b d k
+unfolding rootId levelsOf
+grown {w} {w′} {b} h g k e er el ef A C U =
+    subst (λ (d : Bag). k .free ≡ length (d .free) → Became w w′ b d k) (sym e) (λ ef. record {
+      known = λ i. record { root = er i; levels = el i; free = ef i };
+      tree = A;
+      chain = C;
+      untouched = U;
+    }) ef
+
+leaf-block : (k x : ℕ) → nodeBlock 1 (x ∷ []) [] ≡ rootBlock 0 (node k (x ∷ []) [])
+unfolding rootBlock size kidIds
+leaf-block k x = refl
+
+-- ---- the test for room
+
+module _ {w : List ℕ} {known : Known} {index : ℕ} (x n : ℕ) (N : (q : BagReady w known index) → n ≡ needed (q .bag .root) index)
+    (b : BagReady w known index) where
+  pub refuses : known .free < n → Inserts w w (b .bag) index x known (record { done = false; known = known })
+  refuses l = record { accepted = λ m. absurd (omega (arith, N b, free-count b)); refused = λ m. (refl, refl, refl) }
+
+  module _ (l : n ≤ known .free) where
+    pub enough : needed (b .bag .root) index ≤ length (b .bag .free)
+    enough = omega (arith, N b, free-count b)
+
+    accepts : {w′ : List ℕ} {k : Known} → Became w w′ (b .bag) (bagInsert (b .bag) index x) k
+        → Inserts w w′ (b .bag) index x known (record { done = true; known = k })
+    accepts B = record { accepted = λ m. (refl, B); refused = λ m. absurd (omega (arith, enough)) }
+
+    left : known .free - n ≡ length (bagInsert (b .bag) index x .free)
+    left =
+        let I = bag-insert (b .bag) index x (b .stands .fit) (b .upto) enough in
+        omega (arith, N b, free-count b, ap length (I .rest), length-drop (needed (b .bag .root) index) (b .bag .free))
+
+    -- ---- an empty list
+
+    module _ (e : known .root ≡ 0) where
+      abbrev f : List ℕ
+      f = b .bag .free
+
+      some : 0 < length f
+      some = omega (arith, enough, needs-one e b)
+
+      pub bare-free : Free w f
+      bare-free = record { chain = b .stands .chain; once = λ k. omega (arith, b .stands .once k); some = some }
+
+      module _ (root : ℕ) (w₁ : List ℕ) (et : (f : List ℕ) → Free w f → Took w f root w₁) where
+        pub T : Took w f root w₁
+        T = et f bare-free
+
+        pub clean : Stored w₁ root (nodeBlock 0 [] [])
+        unfolding nodeBlock
+        clean = T .clean
+
+        abbrev pub blank-takes : Takes w₁ root 0
+        blank-takes = record {
+          node = record { size = 0; elems = []; kids = []; stored = clean; few-elems = omega arith; few-kids = omega arith };
+          place = omega arith;
+          room = omega arith;
+          small = omega arith;
+        }
+
+        pub bare-inserted : (w₂ : List ℕ) → ((s : Takes w₁ root 0)
+            → w₂ ≡ withBlock w₁ root (nodeBlock (s .node .size + 1) (insertAt (s .node .elems) 0 x) (s .node .kids)))
+            → Inserts w w₂ (b .bag) index x known
+            (record { done = true; known = record { root = root; levels = 0; free = known .free - n } })
+        unfolding insertAt rootIds
+        bare-inserted w₂ e₂ =
+            let W : Wrote w₁ w₂ root (nodeBlock 1 (x ∷ []) []) =
+            wrote (e₂ blank-takes) (T .clean .inside) (length-nodeBlock 1 (x ∷ []) [] (omega arith) (omega arith)) in
+            let own : (k : ℕ) → count k f ≡ count k (root ∷ []) + count k (drop 1 f) =
+            (λ k. omega (arith, first-free k f some, count-same k (T .first))) in
+            accepts
+            (grown 0 (record { tree = node (getD f 0 0) (x ∷ []) []; free = drop 1 f })
+            (record { root = root; levels = 0; free = known .free - n })
+            (bag-bare (b .bag) index x (is-bare b e)) (T .first) refl left
+            (record { here = stored-same (sym (T .first)) (leaf-block (getD f 0 0) x) (W .stored); each = tt })
+            (chain-untouched (W .untouched) (λ k m. omega (arith, own k, b .stands .once k)) (W .chain) (T .chain))
+            (untouched-more (untouched-both (T .untouched) (W .untouched)) (λ k z.
+            omega (arith, own k, count-append k (root ∷ []) (root ∷ []), count-append k (rootIds (b .bag .root)) f))))
+
+    -- ---- a list with a root
+
+    module _ (ne : known .root ≢ 0) (a : Bool) (A : Told w (known .root) a) where
+      pub R : Rooted w known index (b .bag)
+      R = is-rooted b ne
+
+      abbrev h : ℕ
+      h = known .levels
+
+      abbrev t : Tree h
+      t = R .tree
+
+      abbrev g : List ℕ
+      g = b .bag .free
+
+      pub is-full-root : isFull h t ≡ a
+      unfolding isFull
+      is-full-root = sym (A (root-node R))
+
+      pub root-enough : needed (rooted h t) index ≤ length g
+      root-enough = subst (λ (r : Root). needed r index ≤ length g) (R .is) enough
+
+      -- the caller's nodes
+      all : {w′ : List ℕ} → Untouched w w′ (ids h t ++ g) → Untouched w w′ (rootIds (b .bag .root) ++ g)
+      unfolding rootIds
+      all {w′} U = subst (λ (r : Root). Untouched w w′ (rootIds r ++ g)) (sym (R .is)) U
+
+      -- that has room
+      module _ (q : a ≡ false) where
+        pub below-enough : neededBelow h t index ≤ length g
+        unfolding needed
+        below-enough = omega (arith, root-enough)
+
+        abbrev pub room-ready : InsertReady w (known .levels) (known .root) index
+        room-ready = record {
+          tree = t;
+          free = g;
+          owns = R .owns;
+          here = R .here;
+          some = R .some;
+          room = not-full h t (is-full-root ∙ q);
+          upto = R .upto;
+          enough = below-enough;
+        }
+
+        pub room-inserted : (w′ : List ℕ) → Inserted w w′ (known .levels) (known .root) index x
+            → Inserts w w′ (b .bag) index x known
+            (record { done = true; known = record { root = known .root; levels = known .levels; free = known .free - n } })
+        room-inserted w′ C =
+            let Q = C room-ready in
+            accepts
+            (grown h (insertNonFull h t index x g) (record { root = known .root; levels = known .levels; free = known .free - n })
+            (bag-room (b .bag) index x h t (R .is) (is-full-root ∙ q)) (sym (insert-id h t index x g ∙ R .here)) refl left
+            (Q .at) (Q .chain) (all (Q .untouched)))
+
+      -- that is full
+      module _ (q : a ≡ true) where
+        pub two-enough : 2 + neededBelow h t index ≤ length g
+        unfolding needed
+        two-enough = rw (is-full-root ∙ q) at root-enough
+
+        pub root-full : length (t .elems) ≡ 31
+        root-full = omega (arith, full h t (is-full-root ∙ q), most h t (R .owns .fit))
+
+        pub levels-fit : known .levels + 1 < 2 ^ 64
+        levels-fit = omega (arith, levels-few h t (record { some = R .some; fit = R .owns .fit }), R .owns .small)
+
+        abbrev pub raise-ready : RaiseReady w (known .root)
+        raise-ready = record {
+          height = h;
+          tree = t;
+          free = g;
+          owns = R .owns;
+          here = R .here;
+          full = root-full;
+          two = omega (arith, two-enough);
+        }
+
+        module _ (root : ℕ) (w₁ : List ℕ) (E : (s : RaiseReady w (known .root)) → Raised w w₁ (s .height) (s .tree) (s .free) root) where
+          abbrev u : Tree (suc h)
+          u = aboveRoot h t g
+
+          pub raised : Raised w w₁ h t g root
+          raised = E raise-ready
+
+          pub lifted : Lifted h t index g u
+          lifted = lift-law h t (R .owns .fit) root-full index (R .upto) g (omega (arith, two-enough))
+
+          abbrev raised-ready : InsertReady w₁ (suc h) root index
+          raised-ready = record {
+            tree = u;
+            free = drop 2 g;
+            owns = record {
+              at = raised .at;
+              fit = lifted .fit;
+              chain = raised .chain;
+              once = λ k. omega (arith, R .owns .once k, lifted .nodes k);
+              small = omega (arith, R .owns .small, lifted .sized);
+            };
+            here = lifted .id ∙ sym (raised .first);
+            some = omega (arith, lifted .elems);
+            room = omega (arith, lifted .elems);
+            upto = omega (arith, R .upto, lifted .sized);
+            enough = omega (arith, two-enough, lifted .need, length-drop 2 g);
+          }
+
+          pub full-ready : InsertReady w₁ (known .levels + 1) root index
+          full-ready = rw (add-one (known .levels)) raised-ready
+
+          pub full-inserted : (w′ : List ℕ) → Inserted w₁ w′ (known .levels + 1) root index x
+              → Inserts w w′ (b .bag) index x known
+              (record { done = true; known = record { root = root; levels = known .levels + 1; free = known .free - n } })
+          full-inserted w′ C =
+              let D : Inserted w₁ w′ (suc h) root index x = rw (add-one (known .levels)) at C in
+              let Q = D raised-ready in
+              accepts
+              (grown (suc h) (insertNonFull (suc h) u index x (drop 2 g))
+              (record { root = root; levels = known .levels + 1; free = known .free - n })
+              (bag-full (b .bag) index x h t (R .is) (is-full-root ∙ q))
+              (raised .first ∙ sym (insert-id (suc h) u index x (drop 2 g) ∙ lifted .id)) (add-one h) left
+              (Q .at) (Q .chain)
+              (all (untouched-more (untouched-both (raised .untouched) (Q .untouched)) (λ k z.
+              omega (
+                arith,
+                lifted .nodes k,
+                count-append k (ids h t) g,
+                count-append k (ids h t ++ g) (ids (suc h) u ++ drop 2 g),
+                count-append k (ids (suc h) u) (drop 2 g),
+              )))))

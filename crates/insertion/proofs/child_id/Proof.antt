@@ -1,0 +1,17 @@
+-- `child_id` meets its contract: the child's id stands in its slot.
+use native.Mathlib.Omega.{arith}
+use borrow.Author.Needs.{needs}
+use Rattle.insertion.proofs.Nodes.{lent-kid}
+use Rattle.insertion.proofs.child_id.Statement.{statement}
+use Rattle.insertion.proofs.child_id.Tie as tie
+
+returns : tie.Need-returns
+returns c =
+    let c₁ = c .before .before in
+    λ s. lent-kid (s .node) _ (c₁ .start-of .ensures) _ _ (omega (arith, s .below, s .node .few-kids)) (c .kid .ensures)
+
+pub child-id-spec : {M : Type 1} → statement M
+child-id-spec =
+    tie.close
+    (tie.spec (λ c κs. search needs) (λ c. search needs) (λ c. search needs) (λ c. search needs) (λ c. search needs) (λ c. search needs)
+    (λ c κs. search needs) returns)
