@@ -233,8 +233,8 @@ module _ {w w₁ : List ℕ} {id index h : ℕ} (i : InsertReady w (suc h) id in
 
 -- ---- the same by the levels as the code has them: the call is made at l
 
-abbrev pub Inserts : List ℕ → List ℕ → ℕ → ℕ → ℕ → ℕ → Type 0
-Inserts w w′ levels id index x =
+abbrev pub InsertsBelow : List ℕ → List ℕ → ℕ → ℕ → ℕ → ℕ → Type 0
+InsertsBelow w w′ levels id index x =
     (r : InsertReady w levels id index) → Grew w w′ levels (r .tree) (r .free) (insertNonFull levels (r .tree) index x (r .free))
 
 abbrev pub MadeRoom : List ℕ → List ℕ → ℕ → ℕ → Type 0
@@ -248,7 +248,7 @@ module _ {w : List ℕ} {id index : ℕ} where
 
   pub leaf-done : (levels : ℕ) → levels ≡ 0 → (w′ : List ℕ) (x : ℕ) → ((s : Takes w id index)
       → w′ ≡ withBlock w id (nodeBlock (s .node .size + 1) (insertAt (s .node .elems) index x) (s .node .kids)))
-      → Inserts w w′ levels id index x
+      → InsertsBelow w w′ levels id index x
   leaf-done zero e w′ x d i = leaf-inserted i x d
   leaf-done (suc h) e w′ x d i = absurd (omega arith)
 
@@ -273,15 +273,16 @@ module _ {w : List ℕ} {id index : ℕ} where
           subst (λ (n : ℕ). InsertReady w₁ n (r .id) (r .sub)) q (next i (made i) r T)
 
       module _ (w₂ : List ℕ) (x : ℕ) where
-        pub as-counts : (levels l : ℕ) → levels ≡ suc l → Inserts w₁ w₂ l (r .id) (r .sub) x → InsertReady w levels id index → Counts w₂ id
+        pub as-counts : (levels l : ℕ) → levels ≡ suc l → InsertsBelow w₁ w₂ l (r .id) (r .sub) x → InsertReady w levels id index
+            → Counts w₂ id
         as-counts zero l e C i = absurd (omega arith)
         as-counts (suc h) l e C i =
             let q : l ≡ h = omega arith in
-            counts i (made i) r T w₂ x (subst (λ (n : ℕ). Inserts w₁ w₂ n (r .id) (r .sub) x) q C)
+            counts i (made i) r T w₂ x (subst (λ (n : ℕ). InsertsBelow w₁ w₂ n (r .id) (r .sub) x) q C)
 
-        pub all-done : (levels l : ℕ) → levels ≡ suc l → Inserts w₁ w₂ l (r .id) (r .sub) x → (w₃ : List ℕ) → ((s : Counts w₂ id)
-            → w₃ ≡ withBlock w₂ id (nodeBlock (s .node .size + 1) (s .node .elems) (s .node .kids))) → Inserts w w₃ levels id index x
+        pub all-done : (levels l : ℕ) → levels ≡ suc l → InsertsBelow w₁ w₂ l (r .id) (r .sub) x → (w₃ : List ℕ) → ((s : Counts w₂ id)
+            → w₃ ≡ withBlock w₂ id (nodeBlock (s .node .size + 1) (s .node .elems) (s .node .kids))) → InsertsBelow w w₃ levels id index x
         all-done zero l e C w₃ d i = absurd (omega arith)
         all-done (suc h) l e C w₃ d i =
             let q : l ≡ h = omega arith in
-            done i (made i) r T w₂ x (subst (λ (n : ℕ). Inserts w₁ w₂ n (r .id) (r .sub) x) q C) w₃ d
+            done i (made i) r T w₂ x (subst (λ (n : ℕ). InsertsBelow w₁ w₂ n (r .id) (r .sub) x) q C) w₃ d

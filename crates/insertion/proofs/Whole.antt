@@ -27,7 +27,7 @@ use Rattle.insertion.specs.Nodes.{Takes}
 use Rattle.insertion.specs.Ready.{InsertReady, BagReady, Inserts}
 use Rattle.insertion.specs.Steps.{RaiseReady, Raised}
 use Rattle.insertion.proofs.Needing.{Told}
-use Rattle.insertion.proofs.Inserting.{Inserts as Inserted}
+use Rattle.insertion.proofs.Inserting.{InsertsBelow}
 use Rattle.insertion.proofs.Rooms.{insert-id, lift-law, Lifted, bag-bare, bag-room, bag-full}
 use Rattle.insertion.proofs.Rooting.{Rooted, free-count, is-bare, is-rooted, root-node, needs-one}
 
@@ -160,7 +160,7 @@ module _ {w : List ℕ} {known : Known} {index : ℕ} (x n : ℕ) (N : (q : BagR
           enough = below-enough;
         }
 
-        pub room-inserted : (w′ : List ℕ) → Inserted w w′ (known .levels) (known .root) index x
+        pub room-inserted : (w′ : List ℕ) → InsertsBelow w w′ (known .levels) (known .root) index x
             → Inserts w w′ (b .bag) index x known
             (record { done = true; known = record { root = known .root; levels = known .levels; free = known .free - n } })
         room-inserted w′ C =
@@ -224,11 +224,11 @@ module _ {w : List ℕ} {known : Known} {index : ℕ} (x n : ℕ) (N : (q : BagR
           pub full-ready : InsertReady w₁ (known .levels + 1) root index
           full-ready = rw (add-one (known .levels)) raised-ready
 
-          pub full-inserted : (w′ : List ℕ) → Inserted w₁ w′ (known .levels + 1) root index x
+          pub full-inserted : (w′ : List ℕ) → InsertsBelow w₁ w′ (known .levels + 1) root index x
               → Inserts w w′ (b .bag) index x known
               (record { done = true; known = record { root = root; levels = known .levels + 1; free = known .free - n } })
           full-inserted w′ C =
-              let D : Inserted w₁ w′ (suc h) root index x = rw (add-one (known .levels)) at C in
+              let D : InsertsBelow w₁ w′ (suc h) root index x = rw (add-one (known .levels)) at C in
               let Q = D raised-ready in
               accepts
               (grown (suc h) (insertNonFull (suc h) u index x (drop 2 g))

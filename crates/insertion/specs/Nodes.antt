@@ -22,10 +22,12 @@ pub record TakesKid (w : List ℕ) (k c : ℕ) : Type 0 where
   pub room : length (node .elems) < 31
   pub one-more : length (node .kids) ≡ length (node .elems) + 1
 
+-- node k can count one element more
 pub record Counts (w : List ℕ) (k : ℕ) : Type 0 where
   pub node : Node w k
   pub small : node .size < 2 ^ 32
 
+-- node k has child c
 pub record HasKid (w : List ℕ) (k c : ℕ) : Type 0 where
   pub node : Node w k
   pub below : c < length (node .kids)
@@ -37,13 +39,16 @@ pub record Summed (w : List ℕ) (k from : ℕ) : Type 0 where
   pub kids : (c : ℕ) → c < length (node .kids) → Inside w (getD (node .kids) c 0)
   pub small : sum (map (lengthAt w) (node .kids)) < 2 ^ 32
 
+-- node k has 31 elements
 pub record Full (w : List ℕ) (k : ℕ) : Type 0 where
   pub node : Node w k
   pub full : length (node .elems) ≡ 31
 
+-- all words of node k are 0
 abbrev pub Blank : List ℕ → ℕ → Type 0
 Blank w k = Stored w k (replicate nodeWords 0)
 
+-- node k is full, and node j blank
 pub record Moves (w : List ℕ) (k j : ℕ) : Type 0 where
   pub node : Node w k
   pub full : length (node .elems) ≡ 31

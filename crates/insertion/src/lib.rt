@@ -256,33 +256,20 @@ pub fn insert(pool: &mut [u64], known: Known, index: usize, x: u64) -> Placed
     if known.root == 0 {
         let root = pool::take_node(pool);
         put_element(pool, root, 0, x);
-        return Placed {
-            done: true,
-            known: Known {
-                root,
-                levels: 0,
-                free,
-            },
-        };
+        let levels = 0;
+        let known = Known { root, levels, free };
+        return Placed { done: true, known };
     }
-    let old = known.root;
-    if is_full(pool, old) {
-        let root = raise_root(pool, old);
+    if is_full(pool, known.root) {
+        let root = raise_root(pool, known.root);
         let levels = known.levels + 1;
         insert_into_non_full_node(pool, root, levels, index, x);
-        return Placed {
-            done: true,
-            known: Known { root, levels, free },
-        };
+        let known = Known { root, levels, free };
+        return Placed { done: true, known };
     }
+    let root = known.root;
     let levels = known.levels;
-    insert_into_non_full_node(pool, old, levels, index, x);
-    Placed {
-        done: true,
-        known: Known {
-            root: old,
-            levels,
-            free,
-        },
-    }
+    insert_into_non_full_node(pool, root, levels, index, x);
+    let known = Known { root, levels, free };
+    Placed { done: true, known }
 }

@@ -43,7 +43,7 @@ count-getD (x ∷ xs) (suc i) d l = omega (arith, count-getD xs i d (omega arith
 pub all-counted : (xs : List ℕ) → All (λ k. 0 < count k xs) xs
 all-counted xs = all-of 0 xs (λ i l. count-getD xs i 0 l)
 
-counted : {P : ℕ → Type 0} {xs : List ℕ} → All P xs → (k : ℕ) → 0 < count k xs → P k
+pub counted : {P : ℕ → Type 0} {xs : List ℕ} → All P xs → (k : ℕ) → 0 < count k xs → P k
 unfolding count
 counted nil k l = absurd (omega arith)
 counted {P} (cons {x = x} {xs = xs} p ps) k l = go (eqb k x) refl (counted ps k)
@@ -55,12 +55,12 @@ counted {P} (cons {x = x} {xs = xs} p ps) k l = go (eqb k x) refl (counted ps k)
 -- ---- lists in which every number stands equally often
 
 -- the list without one k
-record Without (k : ℕ) (xs : List ℕ) : Type 0 where
-  rest : List ℕ
-  long : length xs ≡ length rest + 1
-  same : (j : ℕ) → count j xs ≡ count j (k ∷ rest)
+pub record Without (k : ℕ) (xs : List ℕ) : Type 0 where
+  pub rest : List ℕ
+  pub long : length xs ≡ length rest + 1
+  pub same : (j : ℕ) → count j xs ≡ count j (k ∷ rest)
 
-without : (k : ℕ) (xs : List ℕ) → 0 < count k xs → Without k xs
+pub without : (k : ℕ) (xs : List ℕ) → 0 < count k xs → Without k xs
 unfolding count
 without k [] l = absurd (omega arith)
 without k (x ∷ xs) l = go (eqb k x) refl (without k xs)

@@ -153,14 +153,14 @@ module _ (h : ℕ) (t : Tree (suc h)) (F : Fit (suc h) t) (c : ℕ) (l : c < len
 -- ---- the choice
 
 -- what it says of the children
-abbrev Says : (h : ℕ) → Tree (suc h) → ℕ → Repair → Type 0
+abbrev pub Says : (h : ℕ) → Tree (suc h) → ℕ → Repair → Type 0
 Says h t c Nothing = 16 ≤ length (kid h t c .elems)
 Says h t c FromLeft = (0 < c) × (16 ≤ length (kid h t (c - 1) .elems)) × (length (kid h t c .elems) ≤ 15)
 Says h t c FromRight = (c + 1 < length (t .kids)) × (length (kid h t c .elems) ≤ 15) × (16 ≤ length (kid h t (c + 1) .elems))
 Says h t c WithLeft = (0 < c) × (length (kid h t (c - 1) .elems) ≤ 15) × (length (kid h t c .elems) ≤ 15)
 Says h t c WithRight = (c + 1 < length (t .kids)) × (length (kid h t c .elems) ≤ 15) × (length (kid h t (c + 1) .elems) ≤ 15)
 
-says : (h : ℕ) (t : Tree (suc h)) (c : ℕ) → 1 < length (t .kids) → Says h t c (repairFor h t c)
+pub says : (h : ℕ) (t : Tree (suc h)) (c : ℕ) → 1 < length (t .kids) → Says h t c (repairFor h t c)
 unfolding repairFor isThin
 says h t c n =
     go (thin c) (ltb 0 c) (thin (c - 1)) (ltb (c + 1) (length (t .kids))) (thin (c + 1)) refl refl refl refl refl

@@ -117,13 +117,13 @@ module _ (h : ℕ) (t : Tree (suc h)) (F : Fit (suc h) t)
 -- ---- the choice
 
 -- what it says of the children around separator c
-abbrev Says : (h : ℕ) → Tree (suc h) → ℕ → ℕ → Way → Type 0
+abbrev pub Says : (h : ℕ) → Tree (suc h) → ℕ → ℕ → Way → Type 0
 Says h t c i Inside = i < before h t c + size h (kid h t c)
 Says h t c i ByLast = (i ≡ before h t c + size h (kid h t c)) × (16 ≤ length (kid h t c .elems))
 Says h t c i ByFirst = (i ≡ before h t c + size h (kid h t c)) × (16 ≤ length (kid h t (c + 1) .elems))
 Says h t c i ByMerge = (i ≡ before h t c + size h (kid h t c)) × (length (kid h t c .elems) ≤ 15) × (length (kid h t (c + 1) .elems) ≤ 15)
 
-says : (h : ℕ) (t : Tree (suc h)) (i : ℕ) → Step h t i → Says h t (find h t i .child) i (wayFor h t i)
+pub says : (h : ℕ) (t : Tree (suc h)) (i : ℕ) → Step h t i → Says h t (find h t i .child) i (wayFor h t i)
 unfolding wayFor isThin
 says h t i w = go (atSeparator h t i) (thin (find h t i .child)) (thin (find h t i .child + 1)) refl refl refl
   where

@@ -12,3 +12,5 @@ pub mod Read
 pub mod Decide
 pub mod Chain
 pub mod Finding
+pub mod Areas
+pub mod Runs

@@ -33,12 +33,12 @@ tree-read w (suc h) t F A =
 
 -- ---- its height: a leaf's word 33 is 0, an inner node's is its first child
 
-levels-leaf : (n : ℕ) (w : List ℕ) (k : ℕ) → getD (block w k) 33 0 ≡ 0 → levelsAt n w k ≡ 0
+pub levels-leaf : (n : ℕ) (w : List ℕ) (k : ℕ) → getD (block w k) 33 0 ≡ 0 → levelsAt n w k ≡ 0
 unfolding levelsAt
 levels-leaf zero w k e = refl
 levels-leaf (suc n) w k e = rw (e, levelsAt)
 
-levels-inner : (n : ℕ) (w : List ℕ) (k c : ℕ) → getD (block w k) 33 0 ≡ c → 1 ≤ c → levelsAt (suc n) w k ≡ suc (levelsAt n w c)
+pub levels-inner : (n : ℕ) (w : List ℕ) (k c : ℕ) → getD (block w k) 33 0 ≡ c → 1 ≤ c → levelsAt (suc n) w k ≡ suc (levelsAt n w c)
 unfolding levelsAt
 levels-inner n w k zero e l = absurd (omega arith)
 levels-inner n w k (suc c) e l = rw (e, levelsAt)
@@ -52,7 +52,7 @@ levels-read w (suc n) (suc h) t l F A =
     ∙ ap suc (levels-read w n h (kid h t 0) (omega arith) (F .each 0 (omega arith) .fit) K)
 
 -- a tree has more nodes than levels below its root
-levels-nodes : (h : ℕ) (t : Tree h) → Fit h t → h < length (ids h t)
+pub levels-nodes : (h : ℕ) (t : Tree h) → Fit h t → h < length (ids h t)
 unfolding ids
 levels-nodes zero t F = omega arith
 levels-nodes (suc h) t F =
@@ -70,7 +70,7 @@ unfolding rootAt
 root-some n w zero h l e = absurd (omega arith)
 root-some n w (suc k) h l e = rw e
 
-root-read : (w : List ℕ) (n : ℕ) (r : Root) → length (rootIds r) ≤ n → FitRoot r → RootAt w r → r ≡ rootAt n w (rootId r)
+pub root-read : (w : List ℕ) (n : ℕ) (r : Root) → length (rootIds r) ≤ n → FitRoot r → RootAt w r → r ≡ rootAt n w (rootId r)
 unfolding rootIds rootId rootAt
 root-read w n bare l F A = refl
 root-read w n (rooted h t) l F A =

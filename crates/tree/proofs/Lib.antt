@@ -5,3 +5,4 @@ pub mod Getting
 pub mod Spanning
 pub mod Replacing
 pub mod Edits
+pub mod Lending

@@ -28,6 +28,7 @@ pub way-to-spec : {M : Type 1} → statement M
 way-to-spec =
     tie.close
     (tie.spec (λ c κs. search needs) (λ c. search needs) (λ c. search needs) (λ c. search needs) (λ c. search needs) (λ c. search needs)
-    (λ c κs. way-inner (c .before .before .before .pre) _ (c .before .start-of .ensures)) kid-requires (λ c κs. omega (arith, inside c)) (λ c. omega (arith, inside (c .before)))
+    (λ c κs. way-inner (c .before .before .before .pre) _ (c .before .start-of .ensures)) kid-requires (λ c κs. omega (arith, inside c))
+    (λ c. omega (arith, inside (c .before)))
     (λ c. omega (arith, inside (c .before))) (λ c. search needs) (λ c. search needs) (λ c. omega (arith, inside (c .before)))
     (λ c κs. search needs) returns)

@@ -1,0 +1,79 @@
+-- From a pool that was admitted to the promise of a call.
+use mathlib.Core.Path.{_≡_, refl, sym, ap, _∙_}
+use mathlib.Core.List.{List}
+use Prim.Native.Nat.{ℕ, _≤_, _<_}
+use native.Mathlib.Omega.{arith}
+use lib.ListN.{length, getD}
+use Rattle.model.specs.Tree.{Bag, levelsOf}
+use Rattle.pool.specs.Layout.{rootWord, rootId}
+use Rattle.pool.specs.Sound.{Holds, Sound, Sized}
+use Rattle.pool.proofs.Whole.{holds-parts}
+use Rattle.tree.specs.declared.Known.{Known}
+use Rattle.tree.specs.Stands.{knownOf}
+use Rattle.calls.specs.Does.{Ready}
+use Rattle.sound.specs.declared.Checked.{Checked}
+use Rattle.sound.specs.Check.{Checks}
+use Rattle.door.specs.declared.Admitted.{Admitted}
+use Rattle.door.specs.Promise.{Promise, Admits}
+use Rattle.door.proofs.One.{decided}
+
+-- ---- by what the check says
+
+module _ {w : List ℕ} {c : Checked} (C : Checks w c) where
+  pub admits-refused : (c .number ≡ 0 → ⊥) → (k : Known) → Admits w (record { number = c .number; known = k })
+  admits-refused z k = record {
+    misfit = λ n. ap (λ (r : Checked). r .number) (C .misfit n);
+    unsound = λ s u. ap (λ (r : Checked). r .number) (C .unsound s u);
+    holds = λ b H. absurd (z (ap (λ (r : Checked). r .number) (C .sound b H)));
+  }
+
+  -- a sound pool has its root word
+  pub admits-long : c .number ≡ 0 → rootWord < length w
+  admits-long z =
+      decided w (λ n. absurd (omega (arith, ap (λ (r : Checked). r .number) (C .misfit n))))
+      (λ s u. absurd (omega (arith, ap (λ (r : Checked). r .number) (C .unsound s u))))
+      (λ b H. omega (arith, holds-parts H .sized))
+
+  pub admits-known : c .number ≡ 0 → (k : Known) → k ≡ record { root = getD w rootWord 0; levels = c .levels; free = c .free }
+      → Admits w (record { number = 0; known = k })
+  admits-known z k e = record {
+    misfit = λ n. absurd (omega (arith, ap (λ (r : Checked). r .number) (C .misfit n)));
+    unsound = λ s u. absurd (omega (arith, ap (λ (r : Checked). r .number) (C .unsound s u)));
+    holds = λ b H. (refl, e ∙ is b H);
+  }
+    where
+      is : (b : Bag) → Holds w b → _≡_ {A = Known} (record { root = getD w rootWord 0; levels = c .levels; free = c .free }) (knownOf b)
+      is b H = λ i.
+          record {
+            root = holds-parts H .top i;
+            levels = ap (λ (r : Checked). r .levels) (C .sound b H) i;
+            free = ap (λ (r : Checked). r .free) (C .sound b H) i;
+          }
+
+-- ---- what a call makes of it
+
+module _ {w : List ℕ} {o : Admitted} (O : Admits w o) where
+  -- refused with 4 or 1
+  pub refused-promise : {Four One : Type 0} {Held : Bag → Type 0} → (o .number ≡ 0 → ⊥) → (o .number ≡ 4 → Four) → (o .number ≡ 1 → One)
+      → Promise w Four One Held
+  refused-promise z f g = record {
+    misfit = λ n. f (O .misfit n);
+    unsound = λ s u. g (O .unsound s u);
+    holds = λ b H. absurd (z (O .holds b H .0));
+  }
+
+  -- the pool holds a bag, of which this is known
+  module _ (z : o .number ≡ 0) where
+    ready : (b : Bag) → Holds w b → Ready w (o .known)
+    ready b H = record { bag = b; holds = H; is = O .holds b H .1 }
+
+    pub held-promise : {Four One : Type 0} {Held : Bag → Type 0} → ((s : Ready w (o .known)) → Held (s .bag)) → Promise w Four One Held
+    unfolding ready
+    held-promise f = record {
+      misfit = λ n. absurd (omega (arith, O .misfit n));
+      unsound = λ s u. absurd (omega (arith, O .unsound s u));
+      holds = λ b H. f (ready b H);
+    }
+
+    pub some-ready : Ready w (o .known)
+    some-ready = decided w (λ n. absurd (omega (arith, O .misfit n))) (λ s u. absurd (omega (arith, O .unsound s u))) ready

@@ -1,0 +1,4 @@
+-- The laws of the door's promise.
+pub mod One
+pub mod Admitting
+pub mod Demands

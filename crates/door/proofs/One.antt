@@ -1,0 +1,45 @@
+-- Each promise admits one result, and one final value of each lent slice.
+use mathlib.Core.Path.{_≡_, sym, _∙_}
+use mathlib.Core.List.{List}
+use mathlib.Core.Logic.{_⊎_, inl, inr}
+use Prim.Native.Nat.{ℕ}
+use Rattle.model.specs.declared.Answer.{Answer}
+use Rattle.model.specs.Tree.{Bag}
+use Rattle.model.specs.Calls.{Outcome, refused, equalCall}
+use Rattle.pool.specs.Sound.{Holds, Sound, Sized}
+use Rattle.pool.proofs.Read.{one-pool}
+use Rattle.pool.proofs.Sized.{holds-sized}
+use Rattle.pool.proofs.Decide.{sized?, sound?}
+use Rattle.door.specs.Promise.{Edits, Tells, Compares, Formats}
+
+-- every list of words is of one of the three kinds
+pub decided : {X : Type 0} (w : List ℕ) → ((Sized w → ⊥) → X) → (Sized w → (Sound w → ⊥) → X) → ((b : Bag) → Holds w b → X) → X
+decided {X} w f g h = go (sized? w) (sound? w)
+  where
+    go : Sized w ⊎ (Sized w → ⊥) → Sound w ⊎ (Sound w → ⊥) → X
+    go (inr n) d = f n
+    go (inl s) (inr u) = g s u
+    go (inl s) (inl H) = h (H .0) (H .1)
+
+pub edits-one : {call : Bag → Outcome} {w w′ w″ : List ℕ} {r s : Answer} → Edits call w r w′ → Edits call w s w″ → (r ≡ s) × (w′ ≡ w″)
+edits-one {w = w} P Q =
+    decided w
+    (λ n. (P .misfit n .0 ∙ sym (Q .misfit n .0), P .misfit n .1 ∙ sym (Q .misfit n .1)))
+    (λ z u. (P .unsound z u .0 ∙ sym (Q .unsound z u .0), P .unsound z u .1 ∙ sym (Q .unsound z u .1)))
+    (λ b H. (P .holds b H .0 ∙ sym (Q .holds b H .0), one-pool (P .holds b H .1) (Q .holds b H .1)))
+
+pub tells-one : {A : Type 0} (refuse : ℕ → A) (ask : Bag → A) {w : List ℕ} {r s : A} → Tells refuse ask w r → Tells refuse ask w s → r ≡ s
+tells-one refuse ask {w} P Q =
+    decided w (λ n. P .misfit n ∙ sym (Q .misfit n)) (λ z u. P .unsound z u ∙ sym (Q .unsound z u)) (λ b H. P .holds b H ∙ sym (Q .holds b H))
+
+pub compares-one : {v w : List ℕ} {r s : Answer} → Compares v w r → Compares v w s → r ≡ s
+compares-one {v} P Q =
+    decided v (λ n. P .misfit n ∙ sym (Q .misfit n)) (λ z u. P .unsound z u ∙ sym (Q .unsound z u))
+    (λ b H. tells-one refused (equalCall b) (P .holds b H) (Q .holds b H))
+
+pub formats-one : {w w′ w″ : List ℕ} {r s : Answer} → Formats w r w′ → Formats w s w″ → (r ≡ s) × (w′ ≡ w″)
+formats-one {w} P Q =
+    decided w
+    (λ n. (P .misfit n .0 ∙ sym (Q .misfit n .0), P .misfit n .1 ∙ sym (Q .misfit n .1)))
+    (λ z u. (P .fits z .0 ∙ sym (Q .fits z .0), P .fits z .1 ∙ sym (Q .fits z .1)))
+    (λ b H. (P .fits (holds-sized H) .0 ∙ sym (Q .fits (holds-sized H) .0), P .fits (holds-sized H) .1 ∙ sym (Q .fits (holds-sized H) .1)))

@@ -1,0 +1,19 @@
+-- `skip` meets its contract: refused it keeps its position, else what the call on the bag tells.
+use mathlib.Core.Path.{ap}
+use borrow.Author.Needs.{needs}
+use Rattle.model.specs.Calls.{stays}
+use Rattle.door.proofs.Admitting.{refused-promise, held-promise, some-ready}
+use Rattle.door.proofs.skip.Statement.{statement}
+use Rattle.door.proofs.skip.Tie as tie
+
+returns : tie.Need-returns
+returns c = refused-promise (c .before .before .admit .ensures) (c .if1 .taken) (λ e. ap (stays _) e) (λ e. ap (stays _) e)
+
+skip-requires : tie.Need-skip-requires
+skip-requires c κs = some-ready (c .before .before .admit .ensures) (c .if1 .left)
+
+returns-2 : tie.Need-returns-2
+returns-2 c = held-promise (c .before .before .before .admit .ensures) (c .before .if1 .left) (c .skip .ensures)
+
+pub skip-spec : {M : Type 1} → statement M
+skip-spec = tie.close (tie.spec (λ c κs. search needs) returns skip-requires returns-2)

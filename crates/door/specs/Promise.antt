@@ -1,0 +1,40 @@
+-- The one promise that every door call makes, for every list of words, and what it says of each kind of call.
+use mathlib.Core.Path.{_≡_}
+use mathlib.Core.List.{List}
+use Prim.Native.Nat.{ℕ}
+use lib.ListN.{length}
+use Rattle.model.specs.declared.Answer.{Answer}
+use Rattle.model.specs.Tree.{Bag, empty}
+use Rattle.model.specs.Calls.{refused, gives, Outcome, equalCall}
+use Rattle.pool.specs.Layout.{words}
+use Rattle.pool.specs.Sound.{Holds, Sound, Sized, nodesIn}
+use Rattle.tree.specs.Stands.{knownOf}
+use Rattle.door.specs.declared.Admitted.{Admitted}
+
+-- what holds of the result if the length does not fit (4), if the pool is not sound (1), and if it holds the bag b
+pub record Promise (w : List ℕ) (Four One : Type 0) (Held : Bag → Type 0) : Type 0 where
+  pub misfit : (Sized w → ⊥) → Four
+  pub unsound : Sized w → (Sound w → ⊥) → One
+  pub holds : (b : Bag) → Holds w b → Held b
+
+-- a call that edits: refused it changes no word, else the pool holds the bag that the call leaves
+abbrev pub Edits : (Bag → Outcome) → List ℕ → Answer → List ℕ → Type 0
+Edits call w r w′ =
+    Promise w ((r ≡ refused 4) × (w′ ≡ w)) ((r ≡ refused 1) × (w′ ≡ w)) (λ b. (r ≡ call b .answer) × Holds w′ (call b .bag))
+
+-- a call that reads, over the type of its answer
+abbrev pub Tells : {A : Type 0} → (ℕ → A) → (Bag → A) → List ℕ → A → Type 0
+Tells refuse ask w r = Promise w (r ≡ refuse 4) (r ≡ refuse 1) (λ b. r ≡ ask b)
+
+-- a pool that is admitted: the refusal, or what is known of the bag
+abbrev pub Admits : List ℕ → Admitted → Type 0
+Admits w r = Promise w (r .number ≡ 4) (r .number ≡ 1) (λ b. (r .number ≡ 0) × (r .known ≡ knownOf b))
+
+-- equality: the first pool is tried, then the second
+abbrev pub Compares : List ℕ → List ℕ → Answer → Type 0
+Compares v w r = Promise v (r ≡ refused 4) (r ≡ refused 1) (λ a. Tells refused (equalCall a) w r)
+
+-- formatting asks only that the length fits
+pub record Formats (w : List ℕ) (r : Answer) (w′ : List ℕ) : Type 0 where
+  pub misfit : (Sized w → ⊥) → (r ≡ refused 4) × (w′ ≡ w)
+  pub fits : Sized w → (r ≡ gives 0) × (w′ ≡ words (nodesIn (length w)) (empty (nodesIn (length w))))

@@ -1,0 +1,244 @@
+-- The way of a removal through a node, step by step as the code goes it.
+use mathlib.Core.Path.{_≡_, refl, sym, ap, subst, _∙_}
+use mathlib.Core.Bool.{Bool, true, false}
+use mathlib.Core.List.{List, [], _∷_, map}
+use Prim.Native.Nat.{ℕ, suc, _+_, _-_, _*_, _≤_, _<_}
+use native.Mathlib.Omega.{arith}
+use borrow.Author.Tests.{eqb-true, leb-true, leb-false}
+use lib.ListN.{length, take, drop, getD}
+use lib.Seq.{length-take-le, take-at, getD-at}
+use Rattle.model.specs.declared.Place.{Place}
+use Rattle.model.specs.declared.Way.{Way}
+use Rattle.model.specs.declared.Way.the-variants.{Inside, ByLast, ByFirst, ByMerge}
+use Rattle.model.specs.Tree.{Tree, kid, none, size, findIn, find, before, atSeparator}
+use Rattle.model.specs.Fit.{Fit}
+use Rattle.model.specs.Remove.{isThin, joined, merge, fill, wayFor}
+use Rattle.model.proofs.Nodes.{size-least}
+use Rattle.model.proofs.Find.{Step, step}
+use Rattle.model.proofs.Fill.{Refilled}
+use Rattle.model.proofs.Remove.{Says}
+use Rattle.pool.specs.Layout.{start, block}
+use Rattle.pool.specs.Find.{kidLengths, Inner}
+use Rattle.pool.proofs.Store.{block-in}
+use Rattle.pool.proofs.Node.{at-kid, kid-lengths, inner-at}
+use Rattle.tree.specs.declared.Turn.{Turn}
+use Rattle.tree.specs.Lookup.{Above, Turns}
+use Rattle.tree.specs.Stands.{Owns, Reshaped}
+use Rattle.tree.proofs.Lending.{reshaped-same, owns-stands}
+use Rattle.removal.specs.declared.Descent.{Descent}
+use Rattle.removal.specs.Ready.{PairReady, Few, FillReady, RemoveReady}
+use Rattle.removal.specs.Down.{Fills, Descended, entered, beside, downBy, descend, DownReady, Went, Enters, into}
+use Rattle.removal.proofs.Pieces.{part}
+use Rattle.removal.proofs.Choice.{ThinIs}
+use Rattle.removal.proofs.Descending.{fill-keeps, found-filled, way, went, place-of, filled}
+
+-- ---- `enter`
+
+module _ {w : List ℕ} {id index : ℕ} (s : Enters w id index) (a : ℕ) (ea : a ≡ start id) where
+  abbrev hE : ℕ
+  hE = s .height
+
+  abbrev tE : Tree (suc hE)
+  tE = s .tree
+
+  lent : part w a ≡ block w (tE .id)
+  lent = block-in w a (tE .id) (ea ∙ ap start (sym (s .here)))
+
+  stepE : Step hE tE index
+  stepE = step hE tE (s .fit) index (s .upto)
+
+  pub enter-inner : Inner w (part w a) index
+  enter-inner = rw lent (inner-at w hE tE (s .fit) (s .at) index (s .upto))
+
+  module _ (p : Place) (ep : p ≡ findIn (kidLengths w (part w a)) index) where
+    is : p ≡ find hE tE index
+    is = ep ∙ rw (lent, kid-lengths w hE tE (s .fit) (s .at)) refl
+
+    pub enter-child : p .child < 32
+    enter-child = rw is (omega (arith, stepE .child, s .fit .most))
+
+    pub enters : (k n : ℕ) → k ≡ getD (part w a) (33 + p .child) 0
+        → _≡_ {A = Descent} (record { id = k; index = p .sub; swaps = false; at = 0; freed = n }) (into hE tE index n)
+    enters k n ek =
+        let e : k ≡ kid hE tE (find hE tE index .child) .id =
+        ek ∙ rw (lent, is) (at-kid w hE tE (s .at .here) (s .fit .most) (find hE tE index .child) (omega (arith, stepE .child, s .fit .most))) in
+        rw (e, is) refl
+
+-- ---- `go_down`
+
+module _ {w : List ℕ} {id index : ℕ} (s : DownReady w id index) where
+  abbrev h : ℕ
+  h = s .height
+
+  abbrev t : Tree (suc h)
+  t = s .ready .tree
+
+  abbrev f : List ℕ
+  f = s .ready .free
+
+  abbrev O : Owns w (suc h) t f
+  O = s .ready .owns
+
+  abbrev c : ℕ
+  c = find h t index .child
+
+  W : Step h t index
+  W = way h t index f (O .fit) (s .ready .some) (s .ready .below)
+
+  says : Says h t c index (wayFor h t index)
+  says = went h t index f (O .fit) (s .ready .some) (s .ready .below)
+
+  abbrev pub above : Above w id index
+  above = record {
+    height = h;
+    stands = owns-stands O (s .ready .here) (s .ready .some);
+    upto = omega (arith, s .ready .below);
+  }
+
+  -- the step that is taken, by the way that is found
+  by : {w′ : List ℕ} {r : Descent} (y : Way) → wayFor h t index ≡ y → Went w w′ h t f (downBy h y t c index f) r → Went w w′ h t f (descend h t index f) r
+  unfolding descend
+  by {w′} {r} y e D = subst (λ (x : Way). Went w w′ h t f (downBy h x t c index f) r) (sym e) D
+
+  module _ (u : Turn) (turned : (q : Above w id index) → Turns (q .height) (q .stands .tree) index u) where
+    T : Turns h t index u
+    T = turned above
+
+    -- a child of the node, by its number in the turn
+    kid-ready : (d : ℕ) → d < length (t .kids) → FillReady w id d
+    kid-ready d l = record { height = h; tree = t; free = f; owns = O; here = s .ready .here; some = s .ready .some; place = l }
+
+    pub turn-kid : FillReady w id (u .child)
+    turn-kid = kid-ready (u .child) (rw (T .child) (omega (arith, W .child, O .fit .one-more)))
+
+    pub few-kids : u .child < 32
+    few-kids = rw (T .child) (omega (arith, W .child, O .fit .most))
+
+    -- ---- the index is inside the child
+
+    module _ (apart : u .separator ≡ false) (w₁ : List ℕ) (n : ℕ)
+        (fills : (q : FillReady w id (u .child)) → Fills w w₁ (q .height) (q .tree) (q .free) (fill (q .height) (q .tree) (u .child) (q .free)) n) where
+      inside : wayFor h t index ≡ Inside
+      unfolding wayFor
+      inside = rw (sym (T .separator) ∙ apart) refl
+
+      S : Refilled h t index f (fill h t c f)
+      S = filled h t index f (O .fit) (s .ready .some) (s .ready .below) (subst (Says h t c index) inside says)
+
+      M : Fills w w₁ h t f (fill h t c f) n
+      unfolding turn-kid kid-ready
+      M = subst (λ (d : ℕ). Fills w w₁ h t f (fill h t d f) n) (T .child) (fills turn-kid)
+
+      pub enter-ready : Enters w₁ id index
+      enter-ready = record {
+        height = h;
+        tree = fill h t c f .node;
+        at = M .reshaped .at;
+        fit = S .same .fit;
+        here = fill-keeps h t c f .here ∙ s .ready .here;
+        upto = omega (arith, S .same .sized, s .ready .below);
+      }
+
+      pub went-inside : (r : Descent) → ((q : Enters w₁ id index) → r ≡ into (q .height) (q .tree) index n) → Went w w₁ h t f (descend h t index f) r
+      unfolding downBy enter-ready
+      went-inside r e =
+          let is = found-filled h t index f (fill h t c f) S in
+          by Inside inside (rw (e enter-ready, is) (record {
+            id = refl;
+            index = refl;
+            swaps = refl;
+            at = refl;
+            freed = M .count;
+            reshaped = M .reshaped;
+          }))
+
+    -- ---- the index is that of the separator behind the child
+
+    module _ (at : u .separator ≡ true) where
+      sep : atSeparator h t index ≡ true
+      sep = sym (T .separator) ∙ at
+
+      end : find h t index .sub ≡ size h (kid h t c)
+      end = eqb-true (find h t index .sub) (size h (kid h t c)) sep
+
+      place : c < length (t .elems)
+      place = place-of h t index f (O .fit) (s .ready .some) (s .ready .below) (omega (arith, W .index, end))
+
+      pub next-kid : FillReady w id (u .child + 1)
+      next-kid = kid-ready (u .child + 1) (rw (T .child) (omega (arith, place, O .fit .one-more)))
+
+      -- what the tests say of the two children
+      left-thin : {b : Bool} → ThinIs w id (u .child) b → isThin h (kid h t c) ≡ b
+      unfolding turn-kid kid-ready
+      left-thin {b} e = subst (λ (d : ℕ). isThin h (kid h t d) ≡ b) (T .child) (e turn-kid)
+
+      right-thin : {b : Bool} → ThinIs w id (u .child + 1) b → isThin h (kid h t (c + 1)) ≡ b
+      unfolding next-kid kid-ready
+      right-thin {b} e = subst (λ (d : ℕ). isThin h (kid h t (d + 1)) ≡ b) (T .child) (e next-kid)
+
+      pub last-some : ThinIs w id (u .child) false → 0 < u .sub
+      unfolding isThin
+      last-some e =
+          omega (arith, T .sub, end, size-least h (kid h t c), leb-false (length (kid h t c .elems)) 15 (left-thin e))
+
+      pub went-last : ThinIs w id (u .child) false
+          → Went w w h t f (descend h t index f) (record { id = u .id; index = u .sub - 1; swaps = true; at = u .child; freed = 0 })
+      unfolding wayFor downBy
+      went-last e =
+          by ByLast (rw (sep, left-thin e) refl) (record {
+            id = T .id;
+            index = ap (λ (n : ℕ). n - 1) (T .sub ∙ end);
+            swaps = refl;
+            at = T .child;
+            freed = omega arith;
+            reshaped = reshaped-same O;
+          })
+
+      module _ (e : ThinIs w id (u .child) true) where
+        pub went-first : ThinIs w id (u .child + 1) false
+            → (k : ℕ) → ((q : FillReady w id (u .child + 1)) → k ≡ kid (q .height) (q .tree) (u .child + 1) .id)
+            → Went w w h t f (descend h t index f) (record { id = k; index = 0; swaps = true; at = u .child; freed = 0 })
+        unfolding wayFor downBy next-kid kid-ready
+        went-first g k ek =
+            by ByFirst (rw (sep, left-thin e, right-thin g) refl) (record {
+              id = subst (λ (d : ℕ). k ≡ kid h t (d + 1) .id) (T .child) (ek next-kid);
+              index = refl;
+              swaps = refl;
+              at = T .child;
+              freed = omega arith;
+              reshaped = reshaped-same O;
+            })
+
+        module _ (g : ThinIs w id (u .child + 1) true) where
+          pub merge-ready : PairReady Few w id (u .child)
+          unfolding isThin
+          merge-ready = record {
+            height = h;
+            tree = t;
+            free = f;
+            owns = O;
+            here = s .ready .here;
+            place = rw (T .child) place;
+            counts = rw (T .child) (omega (
+              arith,
+              leb-true (length (kid h t c .elems)) 15 (left-thin e),
+              leb-true (length (kid h t (c + 1) .elems)) 15 (right-thin g),
+            ));
+          }
+
+          pub went-merged : (w₁ : List ℕ) → ((q : PairReady Few w id (u .child)) → Reshaped w w₁ (suc (q .height)) (q .tree) (q .free)
+              (merge (q .height) (q .tree) (u .child)) (kid (q .height) (q .tree) (u .child + 1) .id ∷ q .free))
+              → Went w w₁ h t f (descend h t index f) (record { id = u .id; index = u .sub; swaps = false; at = 0; freed = 1 })
+          unfolding wayFor downBy merge-ready merge before
+          went-merged w₁ done =
+              let l : length (take c (t .kids)) ≡ c = length-take-le c (t .kids) (omega (arith, place, O .fit .one-more)) in
+              by ByMerge (rw (sep, left-thin e, right-thin g) refl) (record {
+                id = T .id ∙ rw (getD-at (take c (t .kids)) (joined (kid h t c) (getD (t .elems) c 0) (kid h t (c + 1))) (drop (c + 2) (t .kids))
+                    (none h) c l) refl;
+                index = T .sub ∙ rw (take-at (take c (t .kids))
+                    (joined (kid h t c) (getD (t .elems) c 0) (kid h t (c + 1)) ∷ drop (c + 2) (t .kids)) c l) (omega (arith, W .index));
+                swaps = refl;
+                at = refl;
+                freed = omega arith;
+                reshaped = subst (λ (d : ℕ). Reshaped w w₁ (suc h) t f (merge h t d) (kid h t (d + 1) .id ∷ f)) (T .child) (done merge-ready);
+              })

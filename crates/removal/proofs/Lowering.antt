@@ -1,0 +1,256 @@
+-- The whole list: a root left without elements gives way, and what stands after a removal.
+use mathlib.Core.Path.{_≡_, refl, sym, ap, subst, _∙_}
+use mathlib.Core.List.{List, [], _∷_, _++_}
+use mathlib.Core.Logic.{_≢_}
+use Prim.Native.Nat.{ℕ, zero, suc, _+_, _-_, _≤_, _<_}
+use native.Mathlib.Omega.{arith}
+use lib.ListN.{length, getD}
+use Rattle.lists.specs.Lists.{count}
+use Rattle.lists.proofs.Edits.{length-removeAt}
+use Rattle.lists.proofs.Counts.{count-append, count-self}
+use Rattle.model.specs.Tree.{Tree, Below, kid, size, flat, ids, Root, bare, rooted, Bag, listOf, rootIds, levelsOf}
+use Rattle.model.specs.Fit.{Fit}
+use Rattle.model.specs.Remove.{Shrunk, remove, lowered, bagRemove}
+use Rattle.model.proofs.Nodes.{node, held, flat-length}
+use Rattle.model.proofs.Remove.{Removed, remove-law}
+use Rattle.pool.specs.Layout.{start, block, rootId}
+use Rattle.pool.specs.Parts.{Inside, At, RootAt, ChainAt, countAt}
+use Rattle.pool.specs.Chain.{Untouched, Gave}
+use Rattle.pool.proofs.Store.{block-in}
+use Rattle.pool.proofs.Node.{at-count, at-kid}
+use Rattle.pool.proofs.Frame.{at-untouched, untouched-both}
+use Rattle.pool.proofs.Areas.{untouched-more, chain-few}
+use Rattle.tree.specs.declared.Known.{Known}
+use Rattle.tree.specs.Stands.{Owns, Reshaped, knownOf, BagStands, Became}
+use Rattle.tree.proofs.Lending.{root-held, kid-held, owns-after}
+use Rattle.removal.specs.declared.Taken.{Taken}
+use Rattle.removal.specs.declared.Cut.{Cut}
+use Rattle.removal.specs.Ready.{RemoveReady, Removes, LowerReady, BagHas, BagRemoves}
+use Rattle.removal.proofs.Pieces.{part}
+use Rattle.removal.proofs.Descending.{remove-id}
+
+abbrev bag : Root → List ℕ → Bag
+bag r f = record { root = r; free = f }
+
+-- ---- a root left without elements
+
+lowered-stays : (h : ℕ) (t : Tree h) (f : List ℕ) → 0 < length (t .elems) → lowered h t f ≡ bag (rooted h t) f
+unfolding lowered
+lowered-stays h t f l = go h (t .id) (t .elems) (t .kids) l
+  where
+    go : (h i : ℕ) (es : List ℕ) (ks : List (Below h)) → 0 < length es → lowered h (node i es ks) f ≡ bag (rooted h (node i es ks)) f
+    go h i [] ks l = absurd (omega arith)
+    go zero i (e ∷ es) ks l = refl
+    go (suc h) i (e ∷ es) ks l = refl
+
+lowered-gone : (t : Tree 0) (f : List ℕ) → length (t .elems) ≡ 0 → lowered 0 t f ≡ bag bare (t .id ∷ f)
+unfolding lowered
+lowered-gone t f e = go (t .id) (t .elems) (t .kids) e
+  where
+    go : (i : ℕ) (es : List ℕ) (ks : List (Below 0)) → length es ≡ 0 → lowered 0 (node i es ks) f ≡ bag bare (i ∷ f)
+    go i [] ks e = refl
+    go i (x ∷ es) ks e = absurd (omega arith)
+
+lowered-kid : (h : ℕ) (t : Tree (suc h)) (f : List ℕ) → length (t .elems) ≡ 0 → lowered (suc h) t f ≡ bag (rooted h (kid h t 0)) (t .id ∷ f)
+unfolding lowered
+lowered-kid h t f e = go (t .id) (t .elems) (t .kids) e
+  where
+    go : (i : ℕ) (es : List ℕ) (ks : List (Tree h)) → length es ≡ 0
+        → lowered (suc h) (node i es ks) f ≡ bag (rooted h (kid h (node i es ks) 0)) (i ∷ f)
+    go i [] ks e = refl
+    go i (x ∷ es) ks e = absurd (omega arith)
+
+module _ {w : List ℕ} {known : Known} (s : LowerReady w known) where
+  abbrev h : ℕ
+  h = known .levels
+
+  abbrev t : Tree h
+  t = s .tree
+
+  abbrev f : List ℕ
+  f = s .free
+
+  pub root-inside : Inside w (known .root)
+  root-inside = subst (Inside w) (s .here) (s .owns .at .here .inside)
+
+  elements : countAt w (known .root) ≡ length (t .elems)
+  elements = ap (countAt w) (sym (s .here)) ∙ at-count w h t (s .owns .at .here)
+
+  unfree : count (known .root) f ≡ 0
+  unfree =
+      subst (λ (k : ℕ). count k f ≡ 0) (s .here) (omega (arith, s .owns .once (t .id), root-held h (t .id) t, count-self (t .id) []))
+
+  pub lower-stays : (n : ℕ) → n ≡ countAt w (known .root) → 0 < n → Became w w (bag (rooted h t) f) (lowered h t f) known
+  unfolding rootId levelsOf rootIds
+  lower-stays n e l =
+      subst (λ (d : Bag). Became w w (bag (rooted h t) f) d known) (sym (lowered-stays h t f (omega (arith, elements)))) (record {
+        known = λ i. record { root = sym (s .here) i; levels = h; free = s .frees i };
+        tree = s .owns .at;
+        chain = s .owns .chain;
+        untouched = record { long = refl; head = λ i l n. refl; others = λ k I z. refl };
+      })
+
+  -- the root's node is freed
+  module _ (e : countAt w (known .root) ≡ 0) (w₁ : List ℕ)
+      (gave : (g : List ℕ) → ChainAt w g → count (known .root) g ≡ 0 → Gave w g (known .root) w₁) where
+    G : Gave w f (known .root) w₁
+    G = gave f (s .owns .chain) unfree
+
+    empty : length (t .elems) ≡ 0
+    empty = sym elements ∙ e
+
+    freed : ChainAt w₁ (t .id ∷ f)
+    freed = subst (λ (k : ℕ). ChainAt w₁ (k ∷ f)) (sym (s .here)) (G .chain)
+
+    -- nothing but the tree's nodes was touched
+    own : Untouched w w₁ (ids h t ++ f)
+    own =
+        untouched-more (G .untouched) (ids h t ++ f)
+        (λ k z. omega (arith, count-append k (ids h t) f, root-held h k t, ap (λ (j : ℕ). count k (j ∷ [])) (s .here)))
+
+    pub lower-gone : h ≡ 0 → (n : ℕ) → n ≡ known .free + 1
+        → Became w w₁ (bag (rooted h t) f) (lowered h t f) (record { root = 0; levels = 0; free = n })
+    unfolding rootId levelsOf rootIds
+    lower-gone z n q = go h t z (s .frees) freed own empty
+      where
+        go : (h : ℕ) (t : Tree h) → h ≡ 0 → known .free ≡ length f → ChainAt w₁ (t .id ∷ f) → Untouched w w₁ (ids h t ++ f) → length (t .elems) ≡ 0
+            → Became w w₁ (bag (rooted h t) f) (lowered h t f) (record { root = 0; levels = 0; free = n })
+        go zero t z m C U e =
+            let N : n ≡ length (t .id ∷ f) = omega arith in
+            subst (λ (d : Bag). Became w w₁ (bag (rooted 0 t) f) d (record { root = 0; levels = 0; free = n })) (sym (lowered-gone t f e)) (record {
+              known = ap (λ (n : ℕ). record { root = 0; levels = 0; free = n }) N;
+              tree = tt;
+              chain = C;
+              untouched = U;
+            })
+        go (suc h) t z m C U e = absurd (omega arith)
+
+    pub lower-kid : h ≢ 0 → (a : ℕ) → a ≡ start (known .root) → (k : ℕ) → k ≡ getD (part w a) 33 0 → (n : ℕ) → n ≡ known .free + 1
+        → Became w w₁ (bag (rooted h t) f) (lowered h t f) (record { root = k; levels = h - 1; free = n })
+    unfolding rootId levelsOf rootIds
+    lower-kid z a ea k ek n q =
+        go h t z (ek ∙ ap (λ (b : List ℕ). getD b 33 0) (block-in w a (known .root) ea ∙ ap (block w) (sym (s .here)))) (s .frees) freed own empty
+        (s .owns) (s .here)
+      where
+        go : (h : ℕ) (t : Tree h) → h ≢ 0 → k ≡ getD (block w (t .id)) 33 0 → known .free ≡ length f → ChainAt w₁ (t .id ∷ f)
+            → Untouched w w₁ (ids h t ++ f) → length (t .elems) ≡ 0 → Owns w h t f → t .id ≡ known .root
+            → Became w w₁ (bag (rooted h t) f) (lowered h t f) (record { root = k; levels = h - 1; free = n })
+        go zero t z ek m C U e O p = absurd (z refl)
+        go (suc h) t z ek m C U e O p =
+            let l : 0 < length (t .kids) = omega (arith, O .fit .one-more) in
+            let N : n ≡ length (t .id ∷ f) = omega arith in
+            let L : suc h - 1 ≡ h = omega arith in
+            let K : k ≡ kid h t 0 .id = ek ∙ at-kid w h t (O .at .here) (O .fit .most) 0 (omega arith) in
+            subst (λ (d : Bag). Became w w₁ (bag (rooted (suc h) t) f) d (record { root = k; levels = suc h - 1; free = n }))
+            (sym (lowered-kid h t f e)) (record {
+              known = λ i. record { root = K i; levels = L i; free = N i };
+              tree = at-untouched (G .untouched) h (kid h t 0)
+                  (λ j m. omega (arith, O .once j, kid-held h j t 0 l, ap (λ (i : ℕ). count j (i ∷ [])) p)) (O .at .each 0 l);
+              chain = C;
+              untouched = U;
+            })
+
+  pub free-few : known .free ≤ length w
+  free-few = omega (arith, s .frees, chain-few w f (s .owns .chain) (λ k. omega (arith, s .owns .once k)))
+
+-- ---- the whole list
+
+-- the list has a root, with its tree
+record Rooted (w : List ℕ) (known : Known) (index : ℕ) (d : Bag) : Type 0 where
+  tree : Tree (known .levels)
+  is : d .root ≡ rooted (known .levels) tree
+  here : tree .id ≡ known .root
+  owns : Owns w (known .levels) tree (d .free)
+  some : 0 < length (tree .elems)
+  below : index < size (known .levels) tree
+  frees : known .free ≡ length (d .free)
+
+top : {w : List ℕ} {known : Known} {index : ℕ} (b : BagHas w known index) → Rooted w known index (b .bag)
+unfolding rootId levelsOf listOf rootIds
+top {w} {known} {index} b = go (b .bag .root) (b .bag .free) (b .stands) (b .below) (b .is)
+  where
+    go : (r : Root) (f : List ℕ) → BagStands w (bag r f) → index < length (listOf r) → known ≡ knownOf (bag r f) → Rooted w known index (bag r f)
+    go bare f S l e = absurd (omega arith)
+    go (rooted h t) f S l e =
+        let n = flat-length h t (S .fit .fit) in
+        subst (λ (k : Known). Rooted w k index (bag (rooted h t) f)) (sym e) (record {
+          tree = t;
+          is = refl;
+          here = refl;
+          owns = record { at = S .tree; fit = S .fit .fit; chain = S .chain; once = S .once; small = omega (arith, S .small) };
+          some = S .fit .some;
+          below = omega arith;
+          frees = refl;
+        })
+
+module _ {w : List ℕ} {known : Known} {index : ℕ} (b : BagHas w known index) where
+  abbrev l : ℕ
+  l = known .levels
+
+  abbrev R : Rooted w known index (b .bag)
+  R = top b
+
+  pub root-ready : RemoveReady w l (known .root) index
+  root-ready = record { tree = R .tree; free = b .bag .free; owns = R .owns; here = R .here; some = R .some; below = R .below }
+
+  module _ (c : Cut) (w₁ : List ℕ) (cut : (s : RemoveReady w l (known .root) index)
+      → Removes w w₁ l (s .tree) (s .free) (remove l (s .tree) index (s .free)) c) where
+    abbrev S : Shrunk (Tree l)
+    S = remove l (R .tree) index (b .bag .free)
+
+    D : Removes w w₁ l (R .tree) (b .bag .free) S c
+    unfolding root-ready
+    D = cut root-ready
+
+    law : Removed l (R .tree) index (b .bag .free) S
+    law = remove-law l (R .tree) index (b .bag .free) (R .owns .fit) (R .some) (R .below)
+
+    -- the root may have no element left
+    pub left : (n : ℕ) → n ≡ known .free + c .freed → LowerReady w₁ (record { root = known .root; levels = l; free = n })
+    left n e = record {
+      tree = S .tree;
+      free = S .free;
+      owns = record {
+        at = D .reshaped .at;
+        fit = law .fit;
+        chain = D .reshaped .chain;
+        once = λ k. omega (arith, law .nodes k, R .owns .once k);
+        small = omega (
+          arith,
+          R .owns .small,
+          flat-length l (R .tree) (R .owns .fit),
+          flat-length l (S .tree) (law .fit),
+          ap length (law .list),
+          length-removeAt (flat l (R .tree)) index (omega (arith, R .below, flat-length l (R .tree) (R .owns .fit))),
+        );
+      };
+      here = remove-id l (R .tree) index (b .bag .free) (R .owns .fit) (R .some) (R .below) ∙ R .here;
+      frees = omega (arith, D .freed, R .frees);
+    }
+
+    pub frees-few : known .free + c .freed ≤ length w
+    frees-few = omega (arith, free-few (left (known .free + c .freed) refl), D .reshaped .untouched .long)
+
+    pub removed : (n : ℕ) (e : n ≡ known .free + c .freed) (w₂ : List ℕ) (k : Known)
+        → ((s : LowerReady w₁ (record { root = known .root; levels = l; free = n })) → Became w₁ w₂ (bag (rooted l (s .tree)) (s .free))
+        (lowered l (s .tree) (s .free)) k)
+        → BagRemoves w w₂ (b .bag) index (record { old = c .old; known = k })
+    unfolding bagRemove rootIds left
+    removed n e w₂ k became =
+        let B = became (left n e) in
+        let o : List ℕ = ids l (R .tree) ++ b .bag .free in
+        let o₁ : List ℕ = ids l (S .tree) ++ S .free in
+        let U : Untouched w w₂ o =
+        untouched-more (untouched-both (D .reshaped .untouched) (B .untouched)) o
+        (λ k z. omega (
+          arith,
+          law .nodes k,
+          count-append k o o₁,
+          count-append k (ids l (R .tree)) (b .bag .free),
+          count-append k (ids l (S .tree))
+              (S .free),
+        )) in
+        subst (λ (r : Root). BagRemoves w w₂ (bag r (b .bag .free)) index (record { old = c .old; known = k })) (sym (R .is)) (record {
+          old = D .old;
+          became = record { known = B .known; tree = B .tree; chain = B .chain; untouched = U };
+        })

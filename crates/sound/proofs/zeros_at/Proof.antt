@@ -1,0 +1,12 @@
+-- `zeros_at` meets its contract: the part that is lent is the node's words.
+use native.Mathlib.Omega.{arith}
+use Rattle.pool.proofs.Store.{block-in}
+use Rattle.sound.proofs.zeros_at.Statement.{statement}
+use Rattle.sound.proofs.zeros_at.Tie as tie
+
+pub zeros-at-spec : {M : Type 1} → statement M
+zeros-at-spec =
+    tie.close
+    (tie.spec (λ c κs. omega arith) (λ c. omega arith) (λ c. omega arith) (λ c. omega arith) (λ c. omega arith)
+    (λ c. omega arith) (λ c κs. omega arith)
+    (λ c. rw (block-in _ _ _ (c .before .before .start-of .ensures)) at (c .zeros .ensures)))

@@ -1,0 +1,3 @@
+pub mod Shape
+pub mod Filled
+pub mod Check
