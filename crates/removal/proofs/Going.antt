@@ -96,7 +96,8 @@ module _ {w : List ℕ} {id index : ℕ} (s : DownReady w id index) where
   }
 
   -- the step that is taken, by the way that is found
-  by : {w′ : List ℕ} {r : Descent} (y : Way) → wayFor h t index ≡ y → Went w w′ h t f (downBy h y t c index f) r → Went w w′ h t f (descend h t index f) r
+  by : {w′ : List ℕ} {r : Descent} (y : Way) → wayFor h t index ≡ y → Went w w′ h t f (downBy h y t c index f) r
+      → Went w w′ h t f (descend h t index f) r
   unfolding descend
   by {w′} {r} y e D = subst (λ (x : Way). Went w w′ h t f (downBy h x t c index f) r) (sym e) D
 
@@ -139,7 +140,8 @@ module _ {w : List ℕ} {id index : ℕ} (s : DownReady w id index) where
         upto = omega (arith, S .same .sized, s .ready .below);
       }
 
-      pub went-inside : (r : Descent) → ((q : Enters w₁ id index) → r ≡ into (q .height) (q .tree) index n) → Went w w₁ h t f (descend h t index f) r
+      pub went-inside : (r : Descent) → ((q : Enters w₁ id index) → r ≡ into (q .height) (q .tree) index n) → Went w w₁ h t f
+          (descend h t index f) r
       unfolding downBy enter-ready
       went-inside r e =
           let is = found-filled h t index f (fill h t c f) S in

@@ -113,7 +113,8 @@ module _ {w : List ℕ} {known : Known} (s : LowerReady w known) where
     unfolding rootId levelsOf rootIds
     lower-gone z n q = go h t z (s .frees) freed own empty
       where
-        go : (h : ℕ) (t : Tree h) → h ≡ 0 → known .free ≡ length f → ChainAt w₁ (t .id ∷ f) → Untouched w w₁ (ids h t ++ f) → length (t .elems) ≡ 0
+        go : (h : ℕ) (t : Tree h) → h ≡ 0 → known .free ≡ length f → ChainAt w₁ (t .id ∷ f) → Untouched w w₁ (ids h t ++ f)
+            → length (t .elems) ≡ 0
             → Became w w₁ (bag (rooted h t) f) (lowered h t f) (record { root = 0; levels = 0; free = n })
         go zero t z m C U e =
             let N : n ≡ length (t .id ∷ f) = omega arith in

@@ -130,7 +130,8 @@ module _ {w : List ℕ} {id c : ℕ} (s : PairReady Few w id c) (l : ℕ) (hl : 
       merged w₃ gave =
           let r : ℕ = p .kid in
           let both = untouched-both (one .untouched) (two .untouched) in
-          let G = gave (s .free) (pair-chain Q both (λ k. omega (arith, count-append k (id ∷ []) (l ∷ []))) (two .chain ∙ one .chain)) (right-in-use Q) in
+          let G = gave (s .free) (pair-chain Q both (λ k. omega (arith, count-append k (id ∷ []) (l ∷ [])))
+          (two .chain ∙ one .chain)) (right-in-use Q) in
           let U : Untouched w w₃ (id ∷ (l ∷ (r ∷ []))) = untouched-both both (G .untouched) in
           let three : (k : ℕ) → count k (id ∷ (l ∷ (r ∷ []))) ≤ count k (id ∷ []) + (count k (l ∷ []) + count k (r ∷ [])) =
           (λ k. omega (arith, count-three k id l r)) in
@@ -146,7 +147,8 @@ module _ {w : List ℕ} {id c : ℕ} (s : PairReady Few w id c) (l : ℕ) (hl : 
 
 -- the pair in its new shape, with x between
 module _ {w : List ℕ} {h : ℕ} {t : Tree (suc h)} {f : List ℕ} {c i l r : ℕ} (Q : Pair w h t f c i l r) {w′ own : List ℕ} (U : Untouched w w′ own)
-    (three : (k : ℕ) → count k own ≤ count k (i ∷ []) + (count k (l ∷ []) + count k (r ∷ []))) (q : getD w′ chainWord 0 ≡ getD w chainWord 0) where
+    (three : (k : ℕ) → count k own ≤ count k (i ∷ []) + (count k (l ∷ []) + count k (r ∷ [])))
+    (q : getD w′ chainWord 0 ≡ getD w chainWord 0) where
   exchanged : (a b : Tree h) (x : ℕ) → a .id ≡ l → b .id ≡ r → size (suc h) (withPair h t c a x b) ≡ size (suc h) t
       → Stored w′ l (rootBlock h a) → Stored w′ r (rootBlock h b)
       → Stored w′ i (nodeBlock (size (suc h) t) (set (t .elems) c x) (seats (suc h) t))
@@ -231,7 +233,8 @@ module _ {w : List ℕ} {id c : ℕ} (l r m : ℕ)
     left-lends = rw (pair-count s l r hl hr m em) lendsL
 
     pub left-lent : (w′ : List ℕ)
-        → ((q : Lends w id c (lastOf l m) (frontOf r)) → Lent w w′ id c (lastOf l m) (frontOf r) (q .lender .seated .node) (q .parent .node) (q .taker .node))
+        → ((q : Lends w id c (lastOf l m) (frontOf r)) → Lent w w′ id c (lastOf l m) (frontOf r) (q .lender .seated .node)
+        (q .parent .node) (q .taker .node))
         → Reshaped w w′ (suc hL) (s .tree) (s .free) (borrowLeft hL (s .tree) c) (s .free)
     unfolding lendsL lends-of borrowLeft last butLast
     left-lent w′ lent =
@@ -273,7 +276,8 @@ module _ {w : List ℕ} {id c : ℕ} (l r m : ℕ)
     right-lends = rw (pair-count s l r hl hr m em) lendsR
 
     pub right-lent : (w′ : List ℕ)
-        → ((q : Lends w id c (frontOf r) (backOf l m)) → Lent w w′ id c (frontOf r) (backOf l m) (q .lender .seated .node) (q .parent .node) (q .taker .node))
+        → ((q : Lends w id c (frontOf r) (backOf l m)) → Lent w w′ id c (frontOf r) (backOf l m) (q .lender .seated .node)
+        (q .parent .node) (q .taker .node))
         → Reshaped w w′ (suc hR) (s .tree) (s .free) (borrowRight hR (s .tree) c) (s .free)
     unfolding lendsR lends-of borrowRight
     right-lent w′ lent =

@@ -310,7 +310,8 @@ module _ {w : List ℕ} {id index : ℕ} where
   at-leaf zero e q = leaf-take q
   at-leaf (suc h) e q = absurd (omega arith)
 
-  pub cut-leaf : (levels : ℕ) → levels ≡ 0 → (p : Piece) (w₁ : List ℕ) → ((s : Takes w id index index 1) → TookOut w w₁ id index index 1 (s .seated .node) p)
+  pub cut-leaf : (levels : ℕ) → levels ≡ 0 → (p : Piece) (w₁ : List ℕ) →
+      ((s : Takes w id index index 1) → TookOut w w₁ id index index 1 (s .seated .node) p)
       → CutOut w w₁ levels id index (record { old = p .elem; freed = 0 })
   cut-leaf zero e p w₁ took q = leaf-cut q p w₁ took
   cut-leaf (suc h) e p w₁ took q = absurd (omega arith)
@@ -331,7 +332,8 @@ module _ {w : List ℕ} {id index : ℕ} where
       pub ready : UpReady w₂ id r
       pub few : r .freed + b .freed ≤ levels
 
-    pub to-rise : (levels l : ℕ) → levels ≡ suc l → (b : Cut) (w₂ : List ℕ) → CutOut w₁ w₂ l (r .id) (r .index) b → RemoveReady w levels id index
+    pub to-rise : (levels l : ℕ) → levels ≡ suc l → (b : Cut) (w₂ : List ℕ) → CutOut w₁ w₂ l (r .id) (r .index) b
+        → RemoveReady w levels id index
         → Back levels b w₂
     to-rise zero l e b w₂ cut q = absurd (omega arith)
     to-rise (suc h) l e b w₂ cut q =

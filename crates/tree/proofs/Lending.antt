@@ -56,7 +56,8 @@ module _ {w w′ own : List ℕ} (U : Untouched w w′ own) where
       cons (at-untouched U h x (λ k l. omega (arith, a k)) p) (trees-untouched h (λ k. omega (arith, a k)) ps)
 
   -- and so do the children of a node, if that holds no other node of own than itself
-  pub kids-untouched : (h : ℕ) (t : Tree h) → ((k : ℕ) → held h k t + count k own ≤ 1 + count k (t .id ∷ [])) → At w h t → All (KidAt w′ h) (t .kids)
+  pub kids-untouched : (h : ℕ) (t : Tree h) → ((k : ℕ) → held h k t + count k own ≤ 1 + count k (t .id ∷ [])) → At w h t → All
+      (KidAt w′ h) (t .kids)
   kids-untouched zero t a A = each-kid w′ zero tt
   kids-untouched (suc h) t a A = trees-untouched h (λ k. omega (arith, a k, held-inner h k t)) (each-kid w (suc h) (A .each))
 

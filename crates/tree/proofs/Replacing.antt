@@ -35,7 +35,8 @@ block-elem (suc h) t c x =
     ap (λ (n : ℕ). nodeBlock (n + sum (map (size h) (t .kids))) (set (t .elems) c x) (map (idOf h) (t .kids))) (length-set (t .elems) c x)
 
 -- a node's children where only the node itself was touched
-kids-stand : {w w′ : List ℕ} (h : ℕ) (t : Tree h) → ((k : ℕ) → held h k t ≤ 1) → Untouched w w′ (t .id ∷ []) → At w h t → KidsAt w′ h (t .kids)
+kids-stand : {w w′ : List ℕ} (h : ℕ) (t : Tree h) → ((k : ℕ) → held h k t ≤ 1) → Untouched w w′ (t .id ∷ []) → At w h t
+    → KidsAt w′ h (t .kids)
 kids-stand zero t once U A = tt
 kids-stand (suc h) t once U A = λ c l. at-untouched U h (kid h t c) (λ k m. omega (arith, once k, held-kid h k t c l)) (A .each c l)
 
@@ -94,7 +95,8 @@ separator-replaced {index = index} (suc l) n s r T e w′ x old E =
 -- ---- in a child
 
 -- two children have no node in common
-pub apart-kids : (h : ℕ) (t : Tree (suc h)) (c d : ℕ) → c < length (t .kids) → d < length (t .kids) → d ≢ c → ((k : ℕ) → held (suc h) k t ≤ 1)
+pub apart-kids : (h : ℕ) (t : Tree (suc h)) (c d : ℕ) → c < length (t .kids) → d < length (t .kids) → d ≢ c →
+    ((k : ℕ) → held (suc h) k t ≤ 1)
     → Apart (ids h (kid h t c)) (ids h (kid h t d))
 apart-kids h t c d l m n once k p =
     elim (decLt c d) [
@@ -114,7 +116,8 @@ kids-with {w′ = w′} h t c s U apart A S d l = go (ℕ-discrete d c)
     go : Dec (d ≡ c) → At w′ h (getD (set (t .kids) c s) d (none h))
     go (yes e) = subst (λ (u : Tree h). At w′ h u) (sym (ap (λ (n : ℕ). getD (set (t .kids) c s) n (none h)) e
         ∙ getD-set-same (t .kids) c s (none h) (omega (arith, m)))) S
-    go (no n) = subst (λ (u : Tree h). At w′ h u) (sym (getD-set-other (t .kids) c d s (none h) n)) (at-untouched U h (kid h t d) (apart d m n) (A .each d m))
+    go (no n) = subst (λ (u : Tree h). At w′ h u) (sym (getD-set-other (t .kids) c d s (none h) n))
+        (at-untouched U h (kid h t d) (apart d m n) (A .each d m))
 
 -- a child of the same id and size leaves the node's own words
 block-kid : (h : ℕ) (t : Tree (suc h)) (c : ℕ) (s : Tree h) → s .id ≡ kid h t c .id → size h s ≡ size h (kid h t c)

@@ -33,7 +33,8 @@ nodeOf {w} h t e A F = record {
   few-kids = most-kids h t F;
 }
 
-pub counts : {w : List ℕ} {k : ℕ} (m : Node w k) (a n : ℕ) → a ≡ start k → n ≡ getD (take (a + nodeWords - a) (drop a w)) 0 0 → n ≡ length (m .elems)
+pub counts : {w : List ℕ} {k : ℕ} (m : Node w k) (a n : ℕ) → a ≡ start k → n ≡ getD (take (a + nodeWords - a) (drop a w)) 0 0
+    → n ≡ length (m .elems)
 unfolding nodeBlock
 counts {w} {k} m a n ea e = e ∙ rw (block-in w a k ea, m .stored .is)
 

@@ -21,7 +21,8 @@ known c =
 
 -- at the end
 long : (c : tie.After-slice-known3) → length (c .before .before .copy-run2 .last .0) ≡ length
-    (now (c .before .before .before .before .before .before .before .before .before .before .before .before .before .before .before .before .before .before .before .args .pool))
+    (now (c .before .before .before .before .before .before .before .before .before .before .before
+    .before .before .before .before .before .before .before .before .args .pool))
 long c = c .before .before .copy-run2 .kept .0 ∙ simp length-set at (c .before .before .before .before .before .before .copy-run .kept .0)
 
 returns : tie.Need-returns
@@ -60,7 +61,8 @@ append-spec =
         omega (arith, known (c .before .before .before .before .before .before .before)),
         ⊎-elim (λ g. inl (omega (arith, known (c .before .before .before .before .before .before .before))))
             (λ g. inr (omega (arith, known (c .before .before .before .before .before .before .before))))
-            (one-first (c .before .before .before .before .before .before .before .before .before .before .before .before .before .before .before .before .pre)),
+            (one-first (c .before .before .before .before .before .before .before .before .before
+            .before .before .before .before .before .before .before .pre)),
       ),
     ))
     (λ c. omega (arith, known (c .before .before .before .before .before .before .before .before .before .before)))

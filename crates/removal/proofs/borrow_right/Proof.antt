@@ -10,7 +10,8 @@ pub borrow-right-spec : {M : Type 1} → statement M
 borrow-right-spec =
     tie.close
     (tie.spec (λ c κs. left-kid (c .before .before .pre)) (λ c. search needs) (λ c κs. right-kid (c .before .before .before .before .pre))
-    (λ c κs. pair-inside (c .before .before .before .before .before .before .pre) _ _ (c .before .before .before .child .ensures) (c .before .child2 .ensures))
+    (λ c κs. pair-inside (c .before .before .before .before .before .before .pre) _ _ (c .before .before .before .child .ensures)
+    (c .before .child2 .ensures))
     (λ c.
     let s = c .before .before .before .before .before .before .before .pre in
     omega (arith, s .counts, pair-count s _ _ (c .before .before .before .before .child .ensures) (c .before .before .child2 .ensures) _ (c .count .ensures)))

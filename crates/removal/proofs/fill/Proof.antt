@@ -31,7 +31,8 @@ fill-spec =
     (λ c κs. with-left _ (c .before .before .before .repair-for .ensures) (c .before .before .before .before .before .before .pre)
     (c .before .enum-told4 .given .1))
     (λ c. search needs)
-    (λ c s. left-merged _ (c .before .before .before .before .before .before .repair-for .ensures) s _ (c .before .before .before .before .enum-told4 .given .1)
+    (λ c s. left-merged _ (c .before .before .before .before .before .before .repair-for .ensures) s _
+    (c .before .before .before .before .enum-told4 .given .1)
     (c .before .before .merge .ensures))
     (λ c. search needs)
     (λ c κs. with-right _ (c .before .before .before .repair-for .ensures) (c .before .before .before .before .before .before .pre)
