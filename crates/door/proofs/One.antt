@@ -1,5 +1,5 @@
--- Each promise admits one result, and one final value of each lent slice.
-use mathlib.Core.Path.{_≡_, sym, _∙_}
+-- Each promise admits one result, and one final value of each lent slice; and what is to be told can be.
+use mathlib.Core.Path.{_≡_, refl, sym, ap, _∙_}
 use mathlib.Core.List.{List}
 use mathlib.Core.Logic.{_⊎_, inl, inr}
 use Prim.Native.Nat.{ℕ}
@@ -7,10 +7,11 @@ use Rattle.model.specs.declared.Answer.{Answer}
 use Rattle.model.specs.Tree.{Bag}
 use Rattle.model.specs.Calls.{Outcome, refused, equalCall}
 use Rattle.pool.specs.Sound.{Holds, Sound, Sized}
-use Rattle.pool.proofs.Read.{one-pool}
+use Rattle.pool.proofs.Read.{one-bag, one-pool}
 use Rattle.pool.proofs.Sized.{holds-sized}
 use Rattle.pool.proofs.Decide.{sized?, sound?}
-use Rattle.door.specs.Promise.{Edits, Tells, Compares, Formats}
+use Rattle.calls.specs.Part.{nowhere, partCall}
+use Rattle.door.specs.Promise.{Edits, Tells, Compares, Formats, Windows}
 
 -- every list of words is of one of the three kinds
 pub decided : {X : Type 0} (w : List ℕ) → ((Sized w → ⊥) → X) → (Sized w → (Sound w → ⊥) → X) → ((b : Bag) → Holds w b → X) → X
@@ -32,6 +33,17 @@ pub tells-one : {A : Type 0} (refuse : ℕ → A) (ask : Bag → A) {w : List �
 tells-one refuse ask {w} P Q =
     decided w (λ n. P .misfit n ∙ sym (Q .misfit n)) (λ z u. P .unsound z u ∙ sym (Q .unsound z u)) (λ b H. P .holds b H ∙ sym (Q .holds b H))
 
+-- some answer keeps the promise
+pub tells-some : {A : Type 0} (refuse : ℕ → A) (ask : Bag → A) (w : List ℕ) → (r : A) × Tells refuse ask w r
+tells-some refuse ask w =
+    decided w
+    (λ n. (refuse 4, record { misfit = λ _. refl; unsound = λ z _. absurd (n z); holds = λ b H. absurd (n (holds-sized H)) }))
+    (λ z u. (refuse 1, record { misfit = λ n. absurd (n z); unsound = λ _ _. refl; holds = λ b H. absurd (u (b, H)) }))
+    (λ b H. (
+      ask b,
+      record { misfit = λ n. absurd (n (holds-sized H)); unsound = λ _ u. absurd (u (b, H)); holds = λ c K. ap ask (one-bag H K) },
+    ))
+
 pub compares-one : {v w : List ℕ} {r s : Answer} → Compares v w r → Compares v w s → r ≡ s
 compares-one {v} P Q =
     decided v (λ n. P .misfit n ∙ sym (Q .misfit n)) (λ z u. P .unsound z u ∙ sym (Q .unsound z u))
@@ -43,3 +55,9 @@ formats-one {w} P Q =
     (λ n. (P .misfit n .0 ∙ sym (Q .misfit n .0), P .misfit n .1 ∙ sym (Q .misfit n .1)))
     (λ z u. (P .fits z .0 ∙ sym (Q .fits z .0), P .fits z .1 ∙ sym (Q .fits z .1)))
     (λ b H. (P .fits (holds-sized H) .0 ∙ sym (Q .fits (holds-sized H) .0), P .fits (holds-sized H) .1 ∙ sym (Q .fits (holds-sized H) .1)))
+
+pub window-one : (i : ℕ) (w : List ℕ) (ptr : ℕ × ℕ) {at to : ℕ × ℕ} {r s : List ℕ} → Windows i w ptr r at → Windows i w ptr s to
+    → (r ≡ s) × (at ≡ to)
+window-one i w ptr P Q =
+    let t = tells-some (λ _. nowhere) (partCall i) w in
+    (P (t .0) (t .1) .0 ∙ sym (Q (t .0) (t .1) .0), P (t .0) (t .1) .1 ∙ sym (Q (t .0) (t .1) .1))

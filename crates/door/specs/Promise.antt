@@ -1,14 +1,17 @@
 -- The one promise that every door call makes, for every list of words, and what it says of each kind of call.
 use mathlib.Core.Path.{_≡_}
 use mathlib.Core.List.{List}
-use Prim.Native.Nat.{ℕ}
+use Prim.Native.Nat.{ℕ, _+_, _*_}
 use lib.ListN.{length}
 use Rattle.model.specs.declared.Answer.{Answer}
 use Rattle.model.specs.Tree.{Bag, empty}
 use Rattle.model.specs.Calls.{refused, gives, Outcome, equalCall}
+use Rattle.words.specs.Words.{run}
 use Rattle.pool.specs.Layout.{words}
 use Rattle.pool.specs.Sound.{Holds, Sound, Sized, nodesIn}
 use Rattle.tree.specs.Stands.{knownOf}
+use Rattle.calls.specs.declared.Span.{Span}
+use Rattle.calls.specs.Part.{nowhere, partCall}
 use Rattle.door.specs.declared.Admitted.{Admitted}
 
 -- what holds of the result if the length does not fit (4), if the pool is not sound (1), and if it holds the bag b
@@ -38,3 +41,8 @@ Compares v w r = Promise v (r ≡ refused 4) (r ≡ refused 1) (λ a. Tells refu
 pub record Formats (w : List ℕ) (r : Answer) (w′ : List ℕ) : Type 0 where
   pub misfit : (Sized w → ⊥) → (r ≡ refused 4) × (w′ ≡ w)
   pub fits : Sized w → (r ≡ gives 0) × (w′ ≡ words (nodesIn (length w)) (empty (nodesIn (length w))))
+
+-- the window: the words of the pool that `part` tells, and where in memory they begin, 8 bytes a word
+abbrev pub Windows : ℕ → List ℕ → ℕ × ℕ → List ℕ → ℕ × ℕ → Type 0
+Windows i w ptr r at =
+    (s : Span) → Tells (λ _. nowhere) (partCall i) w s → (r ≡ run w (s .start) (s .count)) × (at ≡ (ptr .0, s .start * 8 + ptr .1))

@@ -1,10 +1,7 @@
 // The calls that firmware makes, on any words at all. Each checks the pool in full, and refuses by 01's numbers.
-ghost use mathlib.Core.Path.{_≡_};
-ghost use Prim.Native.Nat.{_+_, _*_};
-ghost use Rattle.words.specs.Words.{run};
 ghost use Rattle.model.specs.Calls.{refused, checkCall, lenCall, getCall, skipCall, stays, insertCall, pushCall, replaceCall, removeCall};
 ghost use Rattle.calls.specs.Part.{nowhere, partCall};
-ghost use Rattle.door.specs.Promise.{Edits, Tells, Admits, Compares, Formats};
+ghost use Rattle.door.specs.Promise.{Edits, Tells, Admits, Compares, Formats, Windows};
 use calls::Span;
 use calls::give;
 use calls::refuse;
@@ -169,8 +166,7 @@ pub fn part(pool: &[u64], index: u64) -> Span
 
 // The stretch of the pool that holds the element at an index and those after it in the same leaf.
 pub fn window(pool: &[u64], index: u64) -> &[u64]
-    ensures { λ r. ⌜ ((s : Span) → Tells (λ _. nowhere) (partCall index) (now (pool .entry)) s
-        → (now r ≡ run (now (pool .entry)) (s .start) (s .count)) × (r .ptr ≡ ((pool .entry) .ptr .0, s .start * 8 + (pool .entry) .ptr .1))) ⌝ }
+    ensures { λ r. ⌜ Windows index (now (pool .entry)) ((pool .entry) .ptr) (now r) (r .ptr) ⌝ }
 {
     let s = part(pool, index);
     let a = s.start;
