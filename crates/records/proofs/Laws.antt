@@ -1,0 +1,74 @@
+-- The laws of numbers in bytes.
+use mathlib.Core.Path.{_≡_, refl, sym, ap, subst, _∙_}
+use mathlib.Core.List.{List, [], _∷_, _++_}
+use Prim.Native.Nat.{ℕ, zero, suc, _+_, _-_, _*_, _/_, _^_, _≤_, _<_}
+use native.Mathlib.Omega.{arith}
+use lib.ListN.{length, getD}
+use lib.Pow.{pow-add, pow-mono}
+use Rattle.words.specs.Words.{run}
+use Rattle.words.proofs.Laws.{run-cons}
+use Rattle.records.specs.Numbers.{bytesOf, numberOf}
+use borrow.Author.Tests.{le-leb, lt-leb}
+use Rattle.records.specs.Commands.{bodyOf, commandAt, Stands, nextAt}
+use Rattle.records.specs.declared.Body.{Body}
+use Rattle.records.specs.declared.Body.the-variants.{Bytes, Unknown}
+use Rattle.records.specs.declared.Next.the-variants.{End, UnknownKind, CutShort, Whole}
+
+pub bytes-length : (n x : ℕ) → length (bytesOf n x) ≡ n
+unfolding bytesOf
+bytes-length zero x = refl
+bytes-length (suc n) x = ap suc (bytes-length n (x / 256))
+
+-- ---- reading, last byte first
+
+-- what is read of the n bytes at a place when the bytes before i are still to come
+abbrev pub Upto : List ℕ → ℕ → ℕ → ℕ → ℕ → Type 0
+Upto s at n x i = (i ≤ n) × (x ≡ numberOf (run s (at + i) (n - i))) × (x < 2 ^ (8 * (n - i)))
+
+-- room for one byte more
+pub seven-more : (k x b : ℕ) → x < 2 ^ (8 * k) → k ≤ 7 → b < 256 → x * 256 + b < 2 ^ 64
+seven-more k x b h l m =
+    let p : 2 ^ (8 * k) ≤ 2 ^ 56 = pow-mono {i = 8 * k} {j = 56} (omega arith) in
+    omega arith
+
+pub byte-before : (s : List ℕ) (at n x i b : ℕ) → at + n ≤ length s → 0 < i → Upto s at n x i → b ≡ getD s (at + (i - 1)) 0 → b < 256
+    → Upto s at n (x * 256 + b) (i - 1)
+unfolding numberOf
+byte-before s at n x i b h p U e l =
+    let k : n - (i - 1) ≡ suc (n - i) = omega arith in
+    let j : suc (at + (i - 1)) ≡ at + i = omega arith in
+    let a : 8 * suc (n - i) ≡ 8 + 8 * (n - i) = omega arith in
+    let y : x * 256 + b < 2 ^ 8 * 2 ^ (8 * (n - i)) = omega (arith, U .2) in
+    let z : x * 256 + b ≡ b + 256 * x = omega arith in
+    (omega arith, rw (k, run-cons s (at + (i - 1)) (n - i) (omega arith), j, ← e, ← (U .1), z), rw (k, a, pow-add 2 8 (8 * (n - i))) y)
+
+-- ---- commands
+
+pub body-fits : {s : List ℕ} {at k n : ℕ} → Stands s at → getD s at 0 ≡ k → bodyOf k ≡ Bytes n → at + 1 + n ≤ length s
+body-fits S e b = S .body _ (ap bodyOf e ∙ b)
+
+-- a body that ends in the input
+abbrev EndsIn : List ℕ → ℕ → Body → Type 0
+EndsIn s at Unknown = Unit {0}
+EndsIn s at (Bytes n) = at + 1 + n ≤ length s
+
+pub whole-stands : {s : List ℕ} {at n : ℕ} → at < length s → bodyOf (getD s at 0) ≡ Bytes n → at + 1 + n ≤ length s → Stands s at
+whole-stands {s} {at} h e l = record { kind = h; body = λ m f. subst (EndsIn s at) (sym e ∙ f) l }
+
+-- what stands at a place, case by case
+pub next-end : (s : List ℕ) (at : ℕ) → length s ≤ at → nextAt s at ≡ End
+unfolding nextAt
+next-end s at h = rw (le-leb (length s) at h)
+
+module _ (s : List ℕ) (at : ℕ) (h : at < length s) where
+  pub next-unknown : bodyOf (getD s at 0) ≡ Unknown → nextAt s at ≡ UnknownKind
+  unfolding nextAt
+  next-unknown e = rw (lt-leb (length s) at h, e)
+
+  pub next-short : {n : ℕ} → bodyOf (getD s at 0) ≡ Bytes n → length s < at + 1 + n → nextAt s at ≡ CutShort
+  unfolding nextAt
+  next-short {n} e l = rw (lt-leb (length s) at h, e, lt-leb (at + 1 + n) (length s) l)
+
+  pub next-whole : {n : ℕ} → bodyOf (getD s at 0) ≡ Bytes n → at + 1 + n ≤ length s → nextAt s at ≡ Whole (commandAt s at) (n + 1)
+  unfolding nextAt
+  next-whole {n} e l = rw (lt-leb (length s) at h, e, le-leb (at + 1 + n) (length s) l)

@@ -1,0 +1,2 @@
+-- The laws of numbers in bytes.
+pub mod Laws
