@@ -5,8 +5,8 @@
  * A pool of p nodes has BAG_WORDS(p) words, p from 0 to BAG_MOST_NODES. Whatever its words are, bag_format makes it an empty list.
  * An insertion into a list of n samples always finds room while n < 15 p.
  *
- * Every call answers, for any words, any length and any index, and checks the whole pool first: its time grows with the pool.
- * A call that answers another number than BAG_DONE has changed no word. A field that a call does not give is 0.
+ * Every call answers, for any words, any length and any index. All but bag_format check the whole pool first, so that their time grows
+ * with it (docs/BENCH.md). A call that answers another number than BAG_DONE has changed no word. A field that a call does not give is 0.
  *
  * The caller owes this much:
  * - a pointer is not null and is 8-aligned, also for a length of 0, and that many words can be read (and written, if not const);
