@@ -10,8 +10,8 @@
  *
  * The caller owes this much:
  * - a pointer is not null and is 8-aligned, also for a length of 0, and that many words can be read (and written, if not const);
- * - no other thread touches the pool during a call.
- * - stack: 1.5 KB, and on a damaged pool up to 100 bytes more for each of its nodes (both measured).
+ * - no other thread touches the pool during a call;
+ * - stack: 2 KB, and on a damaged pool up to 100 bytes more for each of its nodes (both measured).
  * There is no other state, and nothing is kept between calls. The two pools of bag_equal may be the same.
  */
 #ifndef BAG_H
