@@ -20,6 +20,7 @@ pub struct Done {
 }
 
 // Some words of the pool: the first one's place, and how many.
+#[repr(C)]
 pub struct Span {
     pub start: usize,
     pub count: usize,

@@ -32,6 +32,7 @@ pub enum Way {
 }
 
 // A call's answer: 01's number, the element or number asked for, and a lookup's comparisons; 0 where there is none.
+#[repr(C)]
 pub struct Answer {
     pub number: u64,
     pub value: u64,
@@ -39,6 +40,7 @@ pub struct Answer {
 }
 
 // A walk's answer: 01's number, the element, and the position that the walk has then.
+#[repr(C)]
 pub struct Walked {
     pub number: u64,
     pub element: u64,

@@ -1,0 +1,104 @@
+/*
+ * A list of 64-bit sample numbers, kept in a pool of words that the caller lends. Link target/staticlib/libbag.a, for x86-64, which
+ * needs nothing but the memory functions of the C library.
+ *
+ * A pool of p nodes has BAG_WORDS(p) words, p from 0 to BAG_MOST_NODES. Whatever its words are, bag_format makes it an empty list.
+ * An insertion into a list of n samples always finds room while n < 15 p.
+ *
+ * Every call answers, for any words, any length and any index. All but bag_format check the whole pool first, so that their time grows
+ * with it (docs/BENCH.md). A call that answers another number than BAG_DONE has changed no word. A field that a call does not give is 0.
+ *
+ * The caller owes this much:
+ * - a pointer is not null and is 8-aligned, also for a length of 0, and that many words can be read (and written, if not const);
+ * - no other thread touches the pool during a call;
+ * - stack: 2 KB, and on a damaged pool up to 100 bytes more for each of its nodes (both measured).
+ * There is no other state, and nothing is kept between calls. The two pools of bag_equal may be the same.
+ */
+#ifndef BAG_H
+#define BAG_H
+
+#include <stddef.h>
+#include <stdint.h>
+
+#ifdef __cplusplus
+extern "C" {
+#endif
+
+#define BAG_MOST_NODES 4096
+
+/* The words of a pool of p nodes. */
+#define BAG_WORDS(p) (2 + 66 * (size_t)(p))
+
+/* What a call answers. If several apply, it is the first of 4, 1, 2, 3. */
+enum bag_number {
+    BAG_DONE = 0,
+    BAG_UNSOUND = 1, /* the words are not a sound pool: never formatted, or damaged */
+    BAG_BEYOND = 2,  /* the list has no such index */
+    BAG_NO_ROOM = 3, /* the insertion needs more nodes than are free */
+    BAG_MISFIT = 4   /* the length is not BAG_WORDS(p) for a p up to BAG_MOST_NODES */
+};
+
+typedef struct bag_answer {
+    uint64_t number;
+    uint64_t value;
+    uint64_t compared;
+} bag_answer;
+
+typedef struct bag_walked {
+    uint64_t number;
+    uint64_t element;
+    uint64_t position;
+} bag_walked;
+
+typedef struct bag_part {
+    uint64_t start;
+    uint64_t count;
+} bag_part;
+
+/* Makes an empty list of any old words. 0, 4. */
+bag_answer bag_format(uint64_t *pool, size_t words);
+
+/* Whether the pool is sound: the number alone. 0, 4, 1. */
+bag_answer bag_check(const uint64_t *pool, size_t words);
+
+/* value: how many samples the list has, n. 0, 4, 1. */
+bag_answer bag_len(const uint64_t *pool, size_t words);
+
+/* Puts element at index 0 to n, before the one that was there. 0, 4, 1, 2, 3. */
+bag_answer bag_insert(uint64_t *pool, size_t words, uint64_t index, uint64_t element);
+
+/* Puts element at the end. 0, 4, 1, 3. */
+bag_answer bag_push(uint64_t *pool, size_t words, uint64_t element);
+
+/* value: the element at index 0 to n - 1; compared: how many child lengths were compared on the way to it. 0, 4, 1, 2. */
+bag_answer bag_get(const uint64_t *pool, size_t words, uint64_t index);
+
+/* Stores element at index 0 to n - 1. value: the element that was there. 0, 4, 1, 2. */
+bag_answer bag_replace(uint64_t *pool, size_t words, uint64_t index, uint64_t element);
+
+/* Takes out the element at index 0 to n - 1; those after it move down by one. value: that element. 0, 4, 1, 2. */
+bag_answer bag_remove(uint64_t *pool, size_t words, uint64_t index);
+
+/*
+ * A walk starts at position 0. A step gives the element at a position, and the position after it. 0, 4, 1, 2.
+ * At or past the end: 2, and position n. After 4 or 1: the position that was passed.
+ */
+bag_walked bag_step(const uint64_t *pool, size_t words, uint64_t position);
+
+/* Leaves out m elements and then takes a step, as above; m of 0 is a step, and no m is too large. 0, 4, 1, 2. */
+bag_walked bag_skip(const uint64_t *pool, size_t words, uint64_t position, uint64_t m);
+
+/* value: 1 if both lists have the same elements in the same order, else 0. 0; 4, 1 of the first pool, then of the second. */
+bag_answer bag_equal(const uint64_t *a, size_t a_words, const uint64_t *b, size_t b_words);
+
+/*
+ * Where the element at an index stands, with those after it in the same leaf: pool[start] to pool[start + count - 1]. An element of
+ * an inner node stands by itself. 0 and 0 if refused, and only then; bag_check and bag_len tell why. Any edit may move elements.
+ */
+bag_part bag_window(const uint64_t *pool, size_t words, uint64_t index);
+
+#ifdef __cplusplus
+}
+#endif
+
+#endif
