@@ -158,7 +158,8 @@ pub fn give_node(pool: &mut [u64], k: usize)
 {
     let a = start_of(k);
     words::clear_run(pool, a, LINK);
-    pool[a + LINK] = pool[CHAIN_WORD];
+    let first = pool[CHAIN_WORD];
+    pool[a + LINK] = first;
     pool[CHAIN_WORD] = k as u64;
 }
 
