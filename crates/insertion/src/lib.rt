@@ -7,7 +7,7 @@ ghost use lib.ListN.{length, getD, take, drop};
 ghost use Rattle.lists.specs.Lists.{sum, insertAt};
 ghost use Rattle.model.specs.Insert.{splitChild, insertNonFull, neededBelow, needed as neededFor};
 ghost use Rattle.pool.specs.Layout.{nodeBlock, withBlock};
-ghost use Rattle.pool.specs.Parts.{Inside, lengthAt};
+ghost use Rattle.pool.specs.Parts.{lengthAt};
 ghost use Rattle.tree.specs.Node.{Node};
 ghost use Rattle.tree.specs.Stands.{Reshaped};
 ghost use Rattle.insertion.specs.Nodes.{Takes, TakesKid, Counts, HasKid, Summed, Full, Moves, Blank};
@@ -35,15 +35,6 @@ fn is_full(pool: &[u64], k: usize) -> bool
     pool::is_full(&pool[a..a + NODE_WORDS])
 }
 
-// How many elements node k has with all below it.
-fn length_of(pool: &[u64], k: usize) -> usize
-    requires { ⌜ Inside (now pool) k ⌝ }
-    ensures { λ r. ⌜ r ≡ lengthAt (now (pool .entry)) k ⌝ }
-{
-    let a = pool::start_of(k);
-    pool::len(&pool[a..a + NODE_WORDS])
-}
-
 // The id of child c of node k.
 fn child_id(pool: &[u64], k: usize, c: usize) -> usize
     requires { ⌜ HasKid (now pool) k c ⌝ }
@@ -66,7 +57,7 @@ fn sum_lengths(pool: &[u64], k: usize, from: usize) -> usize
     while i < 16 {
         let j = pool::kid(node, from + i);
         if j != 0 {
-            sum += length_of(pool, j);
+            sum += pool::length_at(pool, j);
         }
         i += 1;
     }
@@ -235,7 +226,7 @@ fn raise_root(pool: &mut [u64], old: usize) -> usize
     ensures { λ r. ⌜ ((s : RaiseReady (now (pool .entry)) old)
         → Raised (now (pool .entry)) (now (pool .exit)) (s .height) (s .tree) (s .free) r) ⌝ }
 {
-    let n = length_of(pool, old);
+    let n = pool::length_at(pool, old);
     let root = pool::take_node(pool);
     put_above(pool, root, old, n);
     split_child(pool, root, 0);

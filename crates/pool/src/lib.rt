@@ -8,7 +8,7 @@ ghost use Rattle.lists.specs.Lists.{count};
 ghost use Rattle.model.specs.Tree.{findIn, empty};
 ghost use Rattle.pool.specs.Layout.{nodeWords, start, words};
 ghost use Rattle.pool.specs.Sound.{nodesIn, fits, Sized};
-ghost use Rattle.pool.specs.Parts.{Inside, ChainAt};
+ghost use Rattle.pool.specs.Parts.{Inside, ChainAt, countAt, lengthAt};
 ghost use Rattle.pool.specs.Chain.{Free, Took, Gave};
 ghost use Rattle.pool.specs.Find.{Inner, kidLengths};
 use model::Place;
@@ -68,6 +68,23 @@ pub fn len(node: &[u64]) -> usize
     ensures { λ r. ⌜ r ≡ getD (now (node .entry)) 1 0 ⌝ }
 {
     node[LENGTH] as usize
+}
+
+// Both counts of node k in the pool.
+pub fn count_at(pool: &[u64], k: usize) -> usize
+    requires { ⌜ Inside (now pool) k ⌝ }
+    ensures { λ r. ⌜ r ≡ countAt (now (pool .entry)) k ⌝ }
+{
+    let a = start_of(k);
+    count_of(&pool[a..a + NODE_WORDS])
+}
+
+pub fn length_at(pool: &[u64], k: usize) -> usize
+    requires { ⌜ Inside (now pool) k ⌝ }
+    ensures { λ r. ⌜ r ≡ lengthAt (now (pool .entry)) k ⌝ }
+{
+    let a = start_of(k);
+    len(&pool[a..a + NODE_WORDS])
 }
 
 pub fn is_leaf(node: &[u64]) -> bool
@@ -141,7 +158,8 @@ pub fn give_node(pool: &mut [u64], k: usize)
 {
     let a = start_of(k);
     words::clear_run(pool, a, LINK);
-    pool[a + LINK] = pool[CHAIN_WORD];
+    let first = pool[CHAIN_WORD];
+    pool[a + LINK] = first;
     pool[CHAIN_WORD] = k as u64;
 }
 

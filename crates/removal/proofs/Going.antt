@@ -26,10 +26,11 @@ use Rattle.tree.specs.Lookup.{Above, Turns}
 use Rattle.tree.specs.Stands.{Owns, Reshaped}
 use Rattle.tree.proofs.Lending.{reshaped-same, owns-stands}
 use Rattle.removal.specs.declared.Descent.{Descent}
-use Rattle.removal.specs.Ready.{PairReady, Few, FillReady, RemoveReady}
-use Rattle.removal.specs.Down.{Fills, Descended, entered, beside, downBy, descend, DownReady, Went, Enters, into}
-use Rattle.removal.proofs.Pieces.{part}
-use Rattle.removal.proofs.Choice.{ThinIs}
+use Rattle.repair.specs.Ready.{PairReady, Few, FillReady, Fills}
+use Rattle.removal.specs.Ready.{RemoveReady}
+use Rattle.removal.specs.Down.{Descended, entered, beside, downBy, descend, DownReady, Went, Enters, into}
+use Rattle.repair.proofs.Pieces.{part}
+use Rattle.repair.proofs.Choice.{ThinIs}
 use Rattle.removal.proofs.Descending.{fill-keeps, found-filled, way, went, place-of, filled}
 
 -- ---- `enter`

@@ -26,7 +26,7 @@ use Rattle.tree.proofs.Lending.{root-held, kid-held, owns-after}
 use Rattle.removal.specs.declared.Taken.{Taken}
 use Rattle.removal.specs.declared.Cut.{Cut}
 use Rattle.removal.specs.Ready.{RemoveReady, Removes, LowerReady, BagHas, BagRemoves}
-use Rattle.removal.proofs.Pieces.{part}
+use Rattle.repair.proofs.Pieces.{part}
 use Rattle.removal.proofs.Descending.{remove-id}
 
 abbrev bag : Root → List ℕ → Bag

@@ -31,13 +31,13 @@ use Rattle.tree.specs.Stands.{Owns, Reshaped}
 use Rattle.tree.proofs.Lending.{rebuilt, owns-after, reshaped-both, reshaped-same, kid-held, owns-kid}
 use Rattle.removal.specs.declared.Descent.{Descent}
 use Rattle.removal.specs.declared.Cut.{Cut}
-use Rattle.removal.specs.declared.Piece.{Piece}
-use Rattle.removal.specs.Pieces.{Takes, TookOut}
+use Rattle.repair.specs.declared.Piece.{Piece}
+use Rattle.repair.specs.Pieces.{Takes, TookOut}
 use Rattle.removal.specs.Ready.{RemoveReady, Removes}
 use Rattle.removal.specs.Down.{Descended, descend, DownReady, Went, UpReady, Up}
-use Rattle.removal.proofs.Ends.{seats, In, seated, leaf-block}
-use Rattle.removal.proofs.Lending.{node-kept}
-use Rattle.removal.proofs.Moves.{stored-as, root-is}
+use Rattle.repair.proofs.Ends.{seats, In, seated, leaf-block}
+use Rattle.repair.proofs.Lending.{node-kept}
+use Rattle.repair.proofs.Moves.{stored-as, root-is}
 use Rattle.removal.proofs.Descending.{raised, goal, remove-raised, Descends, descends, remove-id, remove-few}
 
 taken : {A : Type 0} (x y : A) (b : Bool) → b ≡ true → x ≡ cond b x y

@@ -16,11 +16,6 @@ use Rattle.tree.specs.Stands.{Reshaped}
 use Rattle.removal.specs.declared.Descent.{Descent}
 use Rattle.removal.specs.Ready.{RemoveReady}
 
--- the child that the removal goes into was filled, and that freed so many nodes
-pub record Fills (w w′ : List ℕ) (h : ℕ) (t : Tree (suc h)) (f : List ℕ) (s : Filled h) (freed : ℕ) : Type 0 where
-  pub count : length f + freed ≡ length (s .free)
-  pub reshaped : Reshaped w w′ (suc h) t f (s .node) (s .free)
-
 -- ---- the model's step, cut in two
 
 -- the node when the removal goes below it, the child and the index in it, and whether what is removed there takes the

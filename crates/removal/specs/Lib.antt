@@ -1,3 +1,2 @@
 pub mod Ready
-pub mod Pieces
 pub mod Down

@@ -10,16 +10,16 @@ use pool::LINK;
 use pool::MOST_NODES;
 use pool::NODE_WORDS;
 use pool::ROOT_WORD;
-use pool::count_of;
+use pool::count_at;
 use pool::kid;
-use pool::len;
+use pool::length_at;
 use pool::length_fits;
 use pool::start_of;
 ghost use mathlib.Core.Path.{_≡_};
 ghost use Prim.Native.Nat.{ℕ, _+_, _*_, _<_, _≤_};
 ghost use lib.ListN.{length};
 ghost use Rattle.pool.specs.Layout.{headWords, nodeWords, block};
-ghost use Rattle.pool.specs.Parts.{Inside, countAt, lengthAt, kidIdsAt, levelsAt};
+ghost use Rattle.pool.specs.Parts.{Inside, countAt, kidIdsAt, levelsAt};
 ghost use Rattle.marks.specs.Marks.{seen};
 ghost use Rattle.sound.specs.Shape.{Room, kidAt, Shapes, Sturdy, Grows, GrowsKids};
 ghost use Rattle.sound.specs.Filled.{Tells, Clear, Readable, Filled, AddsUp};
@@ -49,22 +49,6 @@ pub enum Part {
 }
 
 // ---- what is read of node k
-
-fn count_at(pool: &[u64], k: usize) -> usize
-    requires { ⌜ Inside (now pool) k ⌝ }
-    ensures { λ r. ⌜ r ≡ countAt (now (pool .entry)) k ⌝ }
-{
-    let a = start_of(k);
-    count_of(&pool[a..a + NODE_WORDS])
-}
-
-fn length_at(pool: &[u64], k: usize) -> usize
-    requires { ⌜ Inside (now pool) k ⌝ }
-    ensures { λ r. ⌜ r ≡ lengthAt (now (pool .entry)) k ⌝ }
-{
-    let a = start_of(k);
-    len(&pool[a..a + NODE_WORDS])
-}
 
 fn kid_at(pool: &[u64], k: usize, c: usize) -> usize
     requires { ⌜ Inside (now pool) k ⌝ }

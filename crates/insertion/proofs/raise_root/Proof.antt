@@ -9,7 +9,7 @@ put-above-requires c κs =
     let c₁ = c .before .before .before in
     let c₂ = c₁ .before .before in
     let c₃ = c₂ .before .before .before in
-    T (c₃ .pre) _ _ _ (c₂ .length-of .ensures) (c₁ .take-node .ensures) .clean
+    T (c₃ .pre) _ _ _ (c₂ .length-at .ensures) (c₁ .take-node .ensures) .clean
 
 split-child-requires : tie.Need-split-child-requires
 split-child-requires c κs =
@@ -17,7 +17,7 @@ split-child-requires c κs =
     let c₂ = c₁ .before .before .before .before in
     let c₃ = c₂ .before .before in
     let c₄ = c₃ .before .before .before in
-    root-splits (c₄ .pre) _ _ _ (c₃ .length-of .ensures) (c₂ .take-node .ensures) _ (c₁ .put-above .ensures)
+    root-splits (c₄ .pre) _ _ _ (c₃ .length-at .ensures) (c₂ .take-node .ensures) _ (c₁ .put-above .ensures)
 
 returns : tie.Need-returns
 returns c =
@@ -26,8 +26,8 @@ returns c =
     let c₃ = c₂ .before .before .before .before in
     let c₄ = c₃ .before .before in
     λ s.
-    root-raised s _ _ _ (c₄ .length-of .ensures) (c₃ .take-node .ensures) _ (c₂ .put-above .ensures) _
-    (c₁ .split-child .ensures (root-splits s _ _ _ (c₄ .length-of .ensures) (c₃ .take-node .ensures) _ (c₂ .put-above .ensures)))
+    root-raised s _ _ _ (c₄ .length-at .ensures) (c₃ .take-node .ensures) _ (c₂ .put-above .ensures) _
+    (c₁ .split-child .ensures (root-splits s _ _ _ (c₄ .length-at .ensures) (c₃ .take-node .ensures) _ (c₂ .put-above .ensures)))
 
 pub raise-root-spec : {M : Type 1} → statement M
 raise-root-spec =

@@ -39,8 +39,8 @@ kid-requires c κs =
     let c₂ = c₁ .before .before in
     (lent-long (c₂ .pre .node) _ (c₁ .start-of .ensures), omega arith)
 
-length-of-requires : tie.Need-length-of-requires Inv-loop μ-loop
-length-of-requires c κs =
+length-at-requires : tie.Need-length-at-requires Inv-loop μ-loop
+length-at-requires c κs =
     let c₁ = c .before .before .before in
     let c₂ = c₁ .before .before .before .before in
     summed-inside (c₂ .pre) (c₁ .loop .i) _ (read (c .before) (c₂ .pre)) (c .if1 .taken)
@@ -55,7 +55,7 @@ add-sum c =
     omega (
       arith,
       summed-less s (i + 1),
-      summed-one s i _ (read (c .before .before) s) _ _ (c₁ .if1 .taken) (c .length-of .ensures)
+      summed-one s i _ (read (c .before .before) s) _ _ (c₁ .if1 .taken) (c .length-at .ensures)
           (c₂ .loop .inv .1 s),
     )
 
@@ -75,5 +75,5 @@ pub sum-lengths-spec : {M : Type 1} → statement M
 sum-lengths-spec =
     tie.close
     (tie.spec Inv-loop μ-loop (λ c κs. omega arith) (λ c. omega arith) (λ c. omega arith) (λ c. omega arith) (λ c. search needs)
-    (λ c. search needs) loop-holds (λ c. omega arith) kid-requires length-of-requires add-sum (λ c. omega arith) (λ c. omega arith)
+    (λ c. search needs) loop-holds (λ c. omega arith) kid-requires length-at-requires add-sum (λ c. omega arith) (λ c. omega arith)
     loop-again returns)

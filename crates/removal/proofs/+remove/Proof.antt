@@ -10,7 +10,7 @@ use Rattle.removal.proofs.remove.Kinds as kinds
 use Rattle.removal.proofs.+remove.Lts-remove as lts
 use Rattle.removal.proofs.come_up.Reads as come-up
 use Rattle.removal.proofs.go_down.Reads as go-down
-use Rattle.removal.proofs.take_out.Reads as take-out
+use Rattle.repair.proofs.take_out.Reads as take-out
 use Rattle.removal.proofs.+remove.{statement}
 use Rattle.removal.proofs.+remove.Tie.{close}
 

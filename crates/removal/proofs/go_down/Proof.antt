@@ -6,7 +6,7 @@ use native.Mathlib.Omega.{arith}
 use borrow.Author.Needs.{needs}
 use borrow.Author.Tests.{not-true, not-false}
 use denote.Ref.{now}
-use Rattle.removal.proofs.Choice.{ThinIs}
+use Rattle.repair.proofs.Choice.{ThinIs}
 use Rattle.removal.proofs.Going.{above, turn-kid, enter-ready, went-inside, few-kids}
 use Rattle.removal.proofs.Going.{next-kid, last-some, went-last, went-first, merge-ready, went-merged}
 use Rattle.removal.proofs.go_down.Statement.{statement}

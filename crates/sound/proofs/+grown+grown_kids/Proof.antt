@@ -18,7 +18,7 @@ use Rattle.sound.proofs.grown_kids.Reads as kids
 use Rattle.sound.proofs.grown_kids.Kinds as kids-kinds
 use Rattle.sound.proofs.+grown+grown_kids.Lts-grown_kids as kids-lts
 use Rattle.marks.proofs.claim.Reads as claim-reads
-use Rattle.sound.proofs.count_at.Reads as count-at-reads
+use Rattle.pool.proofs.count_at.Reads as count-at-reads
 use Rattle.sound.proofs.kid_at.Reads as kid-at-reads
 use Rattle.sound.proofs.sturdy.Reads as sturdy-reads
 use Rattle.sound.proofs.+grown+grown_kids.{statement}

@@ -1,0 +1,188 @@
+-- Two neighbouring children of a node: where their nodes are, and the tree that stands when they gave way to others.
+use mathlib.Core.Path.{_≡_, refl, sym, ap, _∙_}
+use mathlib.Core.List.{List, [], _∷_, _++_, map, map-append}
+use mathlib.Core.Logic.{_≢_}
+use Prim.Native.Nat.{ℕ, suc, _+_, _-_, _*_, _≤_, _<_}
+use native.Mathlib.Numerals.{add-one, add-two}
+use native.Mathlib.Omega.{arith}
+use lib.ListN.{length, take, drop, getD}
+use lib.Seq.{take-suc, append-snoc}
+use Rattle.lists.specs.Lists.{sum, count, removeAt}
+use Rattle.lists.proofs.All.{All}
+use Rattle.lists.proofs.Sums.{total, total-append}
+use Rattle.lists.proofs.Counts.{count-self}
+use Rattle.lists.proofs.Edits.{split-two}
+use Rattle.model.specs.Tree.{Tree, kid, none, size}
+use Rattle.model.proofs.Nodes.{held, held-inner}
+use Rattle.pool.specs.Layout.{chainWord, start, block, idOf, rootBlock}
+use Rattle.pool.specs.Parts.{Stored, At, ChainAt}
+use Rattle.pool.specs.Chain.{Untouched}
+use Rattle.pool.proofs.Store.{block-in}
+use Rattle.pool.proofs.Node.{at-kid}
+use Rattle.pool.proofs.Areas.{chain-untouched}
+use Rattle.tree.specs.Stands.{Owns, Reshaped}
+use Rattle.tree.proofs.Lending.{KidAt, root-held, apart-nodes, kids-untouched, rebuilt}
+use Rattle.repair.specs.Ready.{PairReady, FillReady}
+use Rattle.repair.proofs.Pieces.{part}
+use Rattle.repair.proofs.Ends.{map-removeAt, In}
+
+pub child-is : {w : List ℕ} {id c : ℕ} (s : FillReady w id c) (a : ℕ) → a ≡ start id → (r : ℕ) → r ≡ getD (part w a) (33 + c) 0
+    → r ≡ kid (s .height) (s .tree) c .id
+child-is {w} {id} {c} s a ea r er =
+    let O = s .owns in
+    er ∙ ap (λ (b : List ℕ). getD b (33 + c) 0) (block-in w a id ea ∙ ap (block w) (sym (s .here)))
+    ∙ at-kid w (s .height) (s .tree) (O .at .here) (O .fit .most) c (omega (arith, s .place, O .fit .one-more, O .fit .most))
+
+-- the pair's children, each by itself
+module _ {P : ℕ → ℕ → Type 0} {w : List ℕ} {id c : ℕ} (s : PairReady P w id c) where
+  pub left-kid : FillReady w id c
+  left-kid = record {
+    height = s .height;
+    tree = s .tree;
+    free = s .free;
+    owns = s .owns;
+    here = s .here;
+    some = omega (arith, s .place);
+    place = omega (arith, s .place, s .owns .fit .one-more);
+  }
+
+  pub right-kid : FillReady w id (c + 1)
+  right-kid = record {
+    height = s .height;
+    tree = s .tree;
+    free = s .free;
+    owns = s .owns;
+    here = s .here;
+    some = omega (arith, s .place);
+    place = omega (arith, s .place, s .owns .fit .one-more);
+  }
+
+  -- read off the words
+  pub left-is : (l : ℕ) → ((q : FillReady w id c) → l ≡ kid (q .height) (q .tree) c .id) → kid (s .height) (s .tree) c .id ≡ l
+  unfolding left-kid
+  left-is l e = sym (e left-kid)
+
+  pub right-is : (r : ℕ) → ((q : FillReady w id (c + 1)) → r ≡ kid (q .height) (q .tree) (c + 1) .id) → kid (s .height) (s .tree) (c + 1) .id ≡ r
+  unfolding right-kid
+  right-is r e = sym (e right-kid)
+
+-- ---- children c and c + 1 of t, in nodes l and r, with t itself in node i
+
+pub record Pair (w : List ℕ) (h : ℕ) (t : Tree (suc h)) (f : List ℕ) (c i l r : ℕ) : Type 0 where
+  pub owns : Owns w (suc h) t f
+  pub place : c < length (t .elems)
+  pub top : t .id ≡ i
+  pub left : kid h t c .id ≡ l
+  pub right : kid h t (c + 1) .id ≡ r
+
+module _ {w : List ℕ} {h : ℕ} {t : Tree (suc h)} {f : List ℕ} {c i l r : ℕ} (Q : Pair w h t f c i l r) where
+  abbrev O : Owns w (suc h) t f
+  O = Q .owns
+
+  abbrev A : Tree h
+  A = kid h t c
+
+  abbrev B : Tree h
+  B = kid h t (c + 1)
+
+  lA : c < length (t .kids)
+  lA = omega (arith, Q .place, O .fit .one-more)
+
+  lB : c + 1 < length (t .kids)
+  lB = omega (arith, Q .place, O .fit .one-more)
+
+  pub top-in : In w (suc h) t i
+  top-in = record { id = Q .top; at = O .at; fit = O .fit }
+
+  pub left-in : In w h A l
+  left-in = record { id = Q .left; at = O .at .each c lA; fit = O .fit .each c lA .fit }
+
+  pub right-in : In w h B r
+  right-in = record { id = Q .right; at = O .at .each (c + 1) lB; fit = O .fit .each (c + 1) lB .fit }
+
+  pub pair-sizes : size h A + size h B < size (suc h) t
+  unfolding size sum
+  pair-sizes =
+      let xs : List (Tree h) = take c (t .kids) in
+      omega (
+        arith,
+        ap (total (size h)) (split-two (t .kids) c (none h) lB),
+        total-append (size h) xs (A ∷ (B ∷ drop (suc (suc c)) (t .kids))),
+      )
+
+  -- the children's ids, when the pair gave way to a pair in the same nodes, and to one child in the left one
+  pub pair-ids : (a b : Tree h) → a .id ≡ l → b .id ≡ r
+      → map (idOf h) (take c (t .kids) ++ (a ∷ (b ∷ drop (c + 2) (t .kids)))) ≡ map (idOf h) (t .kids)
+  pair-ids a b p q =
+      rw (add-two c, map-append (idOf h) (take c (t .kids)) (a ∷ (b ∷ drop (suc (suc c)) (t .kids))), p, q, ← (Q .left), ← (Q .right))
+      (sym (ap (map (idOf h)) (split-two (t .kids) c (none h) lB) ∙ map-append (idOf h) (take c (t .kids)) (A ∷ (B ∷ drop (suc (suc c)) (t .kids)))))
+
+  pub merged-ids : (a : Tree h) → a .id ≡ l
+      → map (idOf h) (take c (t .kids) ++ (a ∷ drop (c + 2) (t .kids))) ≡ removeAt (map (idOf h) (t .kids)) (c + 1)
+  unfolding removeAt
+  merged-ids a p =
+      let D : List (Tree h) = drop (suc (suc c)) (t .kids) in
+      rw (
+        add-two c,
+        add-one c,
+        ← (map-removeAt (idOf h) (t .kids) (suc c)),
+        take-suc (t .kids) c (none h) lA,
+        append-snoc (take c (t .kids)) A D,
+        map-append (idOf h) (take c (t .kids)) (a ∷ D),
+        map-append (idOf h) (take c (t .kids)) (A ∷ D),
+        p,
+        ← (Q .left),
+      )
+      refl
+
+  -- who holds node k
+  record Holders (k : ℕ) : Type 0 where
+    whole : held (suc h) k t
+        ≡ count k (i ∷ [])
+        + (total (held h k) (take c (t .kids)) + (held h k A + (held h k B + total (held h k) (drop (c + 2) (t .kids)))))
+    left : count k (l ∷ []) ≤ held h k A
+    right : count k (r ∷ []) ≤ held h k B
+    once : held (suc h) k t + count k f ≤ 1
+
+  holders : (k : ℕ) → Holders k
+  unfolding sum
+  holders k = record {
+    whole = rw (← (Q .top), add-two c) (omega (
+      arith,
+      held-inner h k t,
+      ap (total (held h k)) (split-two (t .kids) c (none h) lB),
+      total-append (held h k) (take c (t .kids)) (A ∷ (B ∷ drop (suc (suc c)) (t .kids))),
+    ));
+    left = rw (← (Q .left)) (root-held h k A);
+    right = rw (← (Q .right)) (root-held h k B);
+    once = O .once k;
+  }
+
+  pub left-below : l ≢ i
+  left-below = apart-nodes l i (λ k. omega (arith, holders k))
+
+  pub right-below : r ≢ i
+  right-below = apart-nodes r i (λ k. omega (arith, holders k))
+
+  pub left-right : l ≢ r
+  left-right = apart-nodes l r (λ k. omega (arith, holders k))
+
+  pub right-in-use : count r f ≡ 0
+  right-in-use = omega (arith, holders r, count-self r [])
+
+  -- an edit of these three nodes
+  module _ {w′ own : List ℕ} (U : Untouched w w′ own)
+      (three : (k : ℕ) → count k own ≤ count k (i ∷ []) + (count k (l ∷ []) + count k (r ∷ []))) where
+    pub left-kids : All (KidAt w′ h) (A .kids)
+    left-kids = kids-untouched U h A (λ k. rw (Q .left) (omega (arith, three k, holders k))) (left-in .at)
+
+    pub right-kids : All (KidAt w′ h) (B .kids)
+    right-kids = kids-untouched U h B (λ k. rw (Q .right) (omega (arith, three k, holders k))) (right-in .at)
+
+    pub pair-chain : getD w′ chainWord 0 ≡ getD w chainWord 0 → ChainAt w′ f
+    pair-chain q = chain-untouched U f q (λ k m. omega (arith, three k, holders k)) (O .chain)
+
+    pub pair-rebuilt : (new : List (Tree h)) (s : Tree (suc h)) (g : List ℕ) → s .kids ≡ take c (t .kids) ++ (new ++ drop (c + 2) (t .kids))
+        → Stored w′ (s .id) (rootBlock (suc h) s) → All (At w′ h) new → ChainAt w′ g → Reshaped w w′ (suc h) t f s g
+    pair-rebuilt new s g e S N C =
+        rebuilt O U c (c + 2) new s e (λ k. omega (arith, three k, holders k)) (λ k z. omega (arith, three k, holders k)) S N C

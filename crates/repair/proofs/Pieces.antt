@@ -1,0 +1,269 @@
+-- A node's words after a piece is taken out of it or put into it, and after another node's words are put behind its own.
+use mathlib.Core.Path.{_≡_, refl, sym, ap, _∙_}
+use mathlib.Core.List.{List, [], _∷_, _++_}
+use mathlib.Core.Logic.{_≢_, _⊎_, inl, inr}
+use Prim.Native.Nat.{ℕ, zero, suc, _+_, _-_, _*_, _^_, _≤_, _<_}
+use native.Mathlib.Nat.{add-assoc}
+use native.Mathlib.Decide.{decLt}
+use native.Mathlib.Omega.{arith}
+use borrow.Rule.Slice.PartMut.{putMid}
+use lib.ListN.{length, getD, set, take, drop, length-append, length-set}
+use lib.Seq.{sets, append-snoc, length-sets}
+use Rattle.lists.specs.Lists.{insertAt, removeAt}
+use Rattle.lists.proofs.Edits.{length-insertAt, length-removeAt}
+use Rattle.words.specs.Words.{run}
+use Rattle.pool.specs.Layout.{nodeWords, start, block, withBlock, slots, nodeBlock}
+use Rattle.pool.specs.Parts.{Inside, countAt, lengthAt}
+use Rattle.pool.proofs.Block.{length-block, block-other}
+use Rattle.pool.proofs.Blocks.{length-slots}
+use Rattle.pool.proofs.Store.{run-block, sets-in, set-in, withBlock-same, block-in, block-put}
+use Rattle.pool.proofs.Slots.{parts}
+use Rattle.pool.proofs.Node.{node-elem, node-kid}
+use Rattle.pool.proofs.Areas.{Area, elem-area, kid-area, length-parts, area-word, area-read, area-append, area-open, area-close}
+use Rattle.tree.specs.Node.{Node}
+use Rattle.repair.specs.Pieces.{Seated, Takes, TookOut, Puts, putIn, Joins, lengthOr, HasSlot}
+
+-- the words that are lent for a node
+abbrev pub part : List ℕ → ℕ → List ℕ
+part w a = take (a + nodeWords - a) (drop a w)
+
+-- a node has the length that its words say
+pub some-node : (w : List ℕ) (k : ℕ) → k ≢ 0 → lengthAt w k ≡ lengthOr w k
+unfolding lengthOr
+some-node w zero n = absurd (n refl)
+some-node w (suc k) n = refl
+
+module _ {w : List ℕ} {k : ℕ} (s : Seated w k) (a : ℕ) (ea : a ≡ start k) where
+  abbrev es : List ℕ
+  es = s .node .elems
+
+  abbrev ks : List ℕ
+  ks = s .node .kids
+
+  part-is : part w a ≡ nodeBlock (s .node .size) es ks
+  part-is = block-in w a k ea ∙ s .node .stored .is
+
+  pub part-long : length (part w a) ≡ nodeWords
+  part-long = rw (block-in w a k ea) (length-block w k (s .node .stored .inside))
+
+  pub part-count : getD (part w a) 0 0 ≡ length es
+  unfolding nodeBlock
+  part-count = ap (λ (b : List ℕ). getD b 0 0) part-is
+
+  pub part-size : getD (part w a) 1 0 ≡ s .node .size
+  unfolding nodeBlock
+  part-size = ap (λ (b : List ℕ). getD b 1 0) part-is
+
+  -- the slots that are in use
+  long-elems : length (slots 31 es) ≡ 31
+  long-elems = length-slots 31 es (s .node .few-elems)
+
+-- ---- a piece taken out, and one put in
+
+module _ {w : List ℕ} {k i j n : ℕ} (s : Takes w k i j n) (a : ℕ) (ea : a ≡ start k) (x y : ℕ) (b₁ b₂ : List ℕ) where
+  pub took-out : (x ≡ getD (part w a) (2 + i) 0)
+      × (b₁ ≡ sets (part w a) (2 + i) (run (part w a) (2 + i + 1) (2 + getD (part w a) 0 0 - (2 + i) - 1) ++ (0 ∷ [])))
+      → (y ≡ getD b₁ (33 + j) 0)
+      × (b₂ ≡ sets b₁ (33 + j) (run b₁ (33 + j + 1) (33 + getD (part w a) 0 0 + 1 - (33 + j) - 1) ++ (0 ∷ [])))
+      → TookOut w (putMid a (a + nodeWords - a) w (set (set b₂ 0 (getD (part w a) 0 0 - 1)) 1 (getD (part w a) 1 0 - n))) k i j n
+      (s .seated .node) (record { elem = x; kid = y })
+  unfolding nodeBlock
+  took-out p q =
+      let m = s .seated .node in
+      let fe = m .few-elems in
+      let one-more = s .seated .seats in
+      let is : List ℕ = removeAt (m .elems) i in
+      let js : List ℕ = removeAt (m .kids) j in
+      let li : length is + 1 ≡ length (m .elems) = length-removeAt (m .elems) i (s .elem) in
+      let lj : length js + 1 ≡ length (m .kids) = length-removeAt (m .kids) j (omega (arith, s .kid)) in
+      let si : length (slots 31 is) ≡ 31 = length-slots 31 is (omega arith) in
+      let E = elem-area (length (m .elems)) (m .size) (slots 32 (m .kids)) in
+      let K = kid-area (length (m .elems)) (m .size) (slots 31 is) si in
+      let count = part-count (s .seated) a ea in
+      let one : b₁ ≡ parts (length (m .elems)) (m .size) (slots 31 is) (slots 32 (m .kids)) 0 =
+      p .1 ∙ rw (count, part-is (s .seated) a ea) (area-close E (m .elems) fe i (2 + length (m .elems)) (s .elem) refl) in
+      let two : b₂ ≡ parts (length (m .elems)) (m .size) (slots 31 is) (slots 32 js) 0 =
+      q .1 ∙ rw (count, one) (area-close K (m .kids) (m .few-kids) j (33 + length (m .elems) + 1) (omega (arith, s .kid)) (omega arith)) in
+      let less : length (m .elems) - 1 ≡ length is = omega arith in
+      record {
+        elem = p .0 ∙ rw (part-is (s .seated) a ea) (area-word E (m .elems) fe i (omega (arith, s .elem)));
+        kid = q .0 ∙ rw one (area-word K (m .kids) (m .few-kids) j (omega (arith, s .kid)));
+        words = rw (count, part-size (s .seated) a ea, two, less)
+            (block-put w a k ea (parts (length is) (m .size - n) (slots 31 is) (slots 32 js) 0) (m .stored .inside)
+            (length-parts (length is) (m .size - n) (slots 31 is) (slots 32 js) si (length-slots 32 js (omega arith))));
+      }
+
+module _ {w : List ℕ} {k i j n : ℕ} (s : Puts w k i j n) (a : ℕ) (ea : a ≡ start k) (x y : ℕ) (b₁ b₂ : List ℕ) where
+  pub put-in : b₁ ≡ sets (part w a) (2 + i) (x ∷ run (part w a) (2 + i) (2 + getD (part w a) 0 0 - (2 + i)))
+      → b₂ ≡ sets b₁ (33 + j) (y ∷ run b₁ (33 + j) (33 + getD (part w a) 0 0 + 1 - (33 + j)))
+      → putMid a (a + nodeWords - a) w (set (set b₂ 0 (getD (part w a) 0 0 + 1)) 1 (getD (part w a) 1 0 + n))
+      ≡ withBlock w k (putIn (s .seated .node) i j x y n)
+  unfolding nodeBlock
+  put-in p q =
+      let m = s .seated .node in
+      let fe = m .few-elems in
+      let one-more = s .seated .seats in
+      let is : List ℕ = insertAt (m .elems) i x in
+      let js : List ℕ = insertAt (m .kids) j y in
+      let li : length is ≡ length (m .elems) + 1 = length-insertAt (m .elems) i x (s .elem) in
+      let lj : length js ≡ length (m .kids) + 1 = length-insertAt (m .kids) j y (omega (arith, s .kid)) in
+      let si : length (slots 31 is) ≡ 31 = length-slots 31 is (omega (arith, s .room)) in
+      let E = elem-area (length (m .elems)) (m .size) (slots 32 (m .kids)) in
+      let K = kid-area (length (m .elems)) (m .size) (slots 31 is) si in
+      let count = part-count (s .seated) a ea in
+      let one : b₁ ≡ parts (length (m .elems)) (m .size) (slots 31 is) (slots 32 (m .kids)) 0 =
+      p ∙ rw (count, part-is (s .seated) a ea) (area-open E (m .elems) fe i (2 + length (m .elems)) x (s .elem) (omega (arith, s .room)) refl) in
+      let two : b₂ ≡ parts (length (m .elems)) (m .size) (slots 31 is) (slots 32 js) 0 =
+      q ∙ rw (count, one) (area-open K (m .kids) (m .few-kids) j (33 + length (m .elems) + 1) y (omega (arith, s .kid)) (omega (arith, s .room))
+      (omega arith)) in
+      rw (count, part-size (s .seated) a ea, two, ← li)
+      (block-put w a k ea (parts (length is) (m .size + n) (slots 31 is) (slots 32 js) 0) (m .stored .inside)
+      (length-parts (length is) (m .size + n) (slots 31 is) (slots 32 js) si (length-slots 32 js (omega (arith, s .room)))))
+
+-- ---- what is below a child slot
+
+module _ {w : List ℕ} {k j : ℕ} (s : HasSlot w k j) (a : ℕ) (ea : a ≡ start k) (y : ℕ) (ey : y ≡ getD (part w a) (33 + j) 0) where
+  slot-is : y ≡ getD (s .seated .node .kids) j 0
+  slot-is =
+      let m = s .seated .node in
+      ey ∙ rw (part-is (s .seated) a ea) (node-kid (m .size) (m .elems) (m .kids) (m .few-elems) j (omega (arith, s .place, m .few-elems)))
+
+  pub below-none : y ≡ 0 → 0 ≡ lengthOr w (getD (s .seated .node .kids) j 0)
+  unfolding lengthOr
+  below-none z = rw (← slot-is, z) refl
+
+  pub below-inside : y ≢ 0 → Inside w y
+  below-inside n = rw slot-is (s .inside (λ e. n (slot-is ∙ e)))
+
+  pub below-some : y ≢ 0 → (n : ℕ) → n ≡ lengthAt w y → n ≡ lengthOr w (getD (s .seated .node .kids) j 0)
+  below-some n r e = e ∙ rw (← slot-is) (some-node w y n)
+
+-- ---- another node's words put behind a node's own
+
+pub node-count : {w : List ℕ} {k : ℕ} (m : Node w k) → countAt w k ≡ length (m .elems)
+unfolding nodeBlock
+node-count m = ap (λ (b : List ℕ). getD b 0 0) (m .stored .is)
+
+pub node-size : {w : List ℕ} {k : ℕ} (m : Node w k) → lengthAt w k ≡ m .size
+unfolding nodeBlock
+node-size m = ap (λ (b : List ℕ). getD b 1 0) (m .stored .is)
+
+-- what the code may count on; m and n are the counts, u and v the sizes
+pub record Bounds (w : List ℕ) (l r m n u v : ℕ) : Type 0 where
+  pub left-room : start l + nodeWords ≤ length w
+  pub right-room : start r + nodeWords ≤ length w
+  pub few : m + n ≤ 30
+  pub small : u + v < 2 ^ 32
+
+pub bounds : {w : List ℕ} {l r m n u v : ℕ} → Joins w l r → m ≡ countAt w l → n ≡ countAt w r → u ≡ lengthAt w l → v ≡ lengthAt w r
+    → Bounds w l r m n u v
+bounds s em en eu ev = record {
+  left-room = s .left .node .stored .inside .room;
+  right-room = s .right .node .stored .inside .room;
+  few = rw (em, en, node-count (s .left .node), node-count (s .right .node)) (s .room);
+  small = rw (eu, ev, node-size (s .left .node), node-size (s .right .node)) (s .small);
+}
+
+-- one of the nodes lies before the other
+pub one-first : {w : List ℕ} {l r : ℕ} → Joins w l r → (start l + nodeWords ≤ start r) ⊎ (start r + nodeWords ≤ start l)
+one-first {l = l} {r} s =
+    let p = s .left .node .stored .inside .some in
+    let q = s .right .node .stored .inside .some in
+    let n = s .apart in
+    elim (decLt l r) [ yes g ↦ inl (omega arith) | no g ↦ inr (omega arith) ]
+
+module _ {w : List ℕ} {l r : ℕ} (s : Joins w l r) (a b : ℕ) (ea : a ≡ start l) (eb : b ≡ start r) where
+  abbrev L : Node w l
+  L = s .left .node
+
+  abbrev R : Node w r
+  R = s .right .node
+
+  -- a run of the right node, with other words in the left one
+  fetched : (X : List ℕ) → length X ≡ nodeWords → (o n : ℕ) → o + n ≤ nodeWords
+      → run (withBlock w l X) (b + o) n ≡ run (nodeBlock (R .size) (R .elems) (R .kids)) o n
+  fetched X e o n m =
+      let ne : r ≢ l = λ q. s .apart (sym q) in
+      rw (
+        eb,
+        run-block (withBlock w l X) r o n m,
+        block-other w l X e r (R .stored .inside .some) (L .stored .inside .some) ne,
+        R .stored .is,
+      )
+
+  -- words put behind those of the left node that are kept in an area
+  behind : {B : List ℕ → List ℕ} {o n : ℕ} (A : Area B o n) (xs ys : List ℕ) (at : ℕ) → length (B (slots n xs)) ≡ nodeWords
+      → at ≡ a + (o + length xs) → length xs + length ys ≤ n → o + n ≤ nodeWords
+      → sets (withBlock w l (B (slots n xs))) at ys ≡ withBlock w l (B (slots n (xs ++ ys)))
+  behind {B} {o} {n} A xs ys at e f m g =
+      rw (f, ea, sets-in w l (B (slots n xs)) e (o + length xs) ys (omega arith))
+      (ap (withBlock w l) (area-append A xs (omega arith) (o + length xs) ys refl m))
+
+  abbrev m : ℕ
+  m = length (L .elems)
+
+  abbrev n : ℕ
+  n = length (R .elems)
+
+  all-behind : (x : ℕ) (w₁ w₂ : List ℕ)
+      → w₁ ≡ sets (set w (a + 2 + m) x) (a + 2 + m + 1) (run (set w (a + 2 + m) x) (b + 2) n)
+      → w₂ ≡ sets w₁ (a + 33 + m + 1) (run w₁ (b + 33) (n + 1))
+      → set (set w₂ (a + 0) (m + n + 1)) (a + 1) (L .size + R .size + 1)
+      ≡ withBlock w l (nodeBlock (L .size + R .size + 1) (L .elems ++ (x ∷ R .elems)) (L .kids ++ R .kids))
+  unfolding nodeBlock
+  all-behind x w₁ w₂ p q =
+      let es : List ℕ = L .elems ++ (x ∷ []) in
+      let fs : List ℕ = es ++ R .elems in
+      let ks : List ℕ = L .kids ++ R .kids in
+      let room = s .room in
+      let le : length es ≡ m + 1 = length-append (L .elems) (x ∷ []) in
+      let lf : length fs ≡ m + n + 1 = omega (arith, length-append es (R .elems)) in
+      let lk : length ks ≡ m + n + 2 = omega (arith, length-append (L .kids) (R .kids), s .left .seats, s .right .seats) in
+      let sf : length (slots 31 fs) ≡ 31 = length-slots 31 fs (omega arith) in
+      let long : (zs js : List ℕ) → length zs ≤ 31 → length js ≤ 32 → length (parts m (L .size) (slots 31 zs) (slots 32 js) 0) ≡ nodeWords =
+      (λ zs js f g. length-parts m (L .size) (slots 31 zs) (slots 32 js) (length-slots 31 zs f) (length-slots 32 js g)) in
+      let E = elem-area m (L .size) (slots 32 (L .kids)) in
+      let K = kid-area m (L .size) (slots 31 fs) sf in
+      let X : List ℕ = parts m (L .size) (slots 31 es) (slots 32 (L .kids)) 0 in
+      let Y : List ℕ = parts m (L .size) (slots 31 fs) (slots 32 (L .kids)) 0 in
+      let Z : List ℕ = parts m (L .size) (slots 31 fs) (slots 32 ks) 0 in
+      let first : set w (a + 2 + m) x ≡ withBlock w l X =
+      ap (λ (u : List ℕ). set u (a + 2 + m) x)
+      (sym (withBlock-same w l (L .stored .inside)) ∙ ap (withBlock w l) (L .stored .is))
+      ∙ (behind E (L .elems) (x ∷ []) (a + 2 + m) (long (L .elems) (L .kids) (L .few-elems) (L .few-kids)) (omega arith) (omega arith) (omega arith)) in
+      let elems : w₁ ≡ withBlock w l Y =
+      p ∙ rw (
+        first,
+        fetched X (long es (L .kids) (omega arith) (L .few-kids)) 2 n (omega arith),
+        area-read (elem-area n (R .size) (slots 32 (R .kids))) (R .elems) (R .few-elems) 2 (omega arith),
+      )
+      (behind E es (R .elems) (a + 2 + m + 1) (long es (L .kids) (omega arith) (L .few-kids)) (omega arith) (omega arith) (omega arith)) in
+      let kids : w₂ ≡ withBlock w l Z =
+      q ∙ rw (
+        elems,
+        fetched Y (long fs (L .kids) (omega arith) (L .few-kids)) 33 (n + 1) (omega arith),
+        ← (s .right .seats),
+        area-read (kid-area n (R .size) (slots 31 (R .elems)) (length-slots 31 (R .elems) (R .few-elems))) (R .kids) (R .few-kids) 33 (omega arith),
+      )
+      (behind K (L .kids) (R .kids) (a + 33 + m + 1) (long fs (L .kids) (omega arith) (L .few-kids)) (omega (arith, s .left .seats))
+      (omega (arith, length-append (L .kids) (R .kids))) (omega arith)) in
+      rw (
+        kids,
+        ea,
+        set-in w l Z (long fs ks (omega arith) (omega arith)) 0 (m + n + 1) (omega arith),
+        set-in w l (parts (m + n + 1) (L .size) (slots 31 fs) (slots 32 ks) 0)
+            (length-parts (m + n + 1) (L .size) (slots 31 fs) (slots 32 ks) sf (length-slots 32 ks (omega arith))) 1 (L .size + R .size + 1) (omega arith),
+        ← lf,
+        append-snoc (L .elems) x (R .elems),
+      ) refl
+
+  -- the same of what the code read
+  pub appended : (x m n u v : ℕ) (w₁ w₂ : List ℕ) → m ≡ countAt w l → n ≡ countAt w r → u ≡ lengthAt w l → v ≡ lengthAt w r
+      → w₁ ≡ sets (set w (a + 2 + m) x) (a + 2 + m + 1) (run (set w (a + 2 + m) x) (b + 2) n)
+      → w₂ ≡ sets w₁ (a + 33 + m + 1) (run w₁ (b + 33) (n + 1))
+      → set (set w₂ (a + 0) (m + n + 1)) (a + 1) (u + v + 1)
+      ≡ withBlock w l (nodeBlock (L .size + R .size + 1) (L .elems ++ (x ∷ R .elems)) (L .kids ++ R .kids))
+  appended x m n u v w₁ w₂ em en eu ev p q =
+      let im = em ∙ node-count L in
+      let jn = en ∙ node-count R in
+      rw (im, jn, eu ∙ node-size L, ev ∙ node-size R) (all-behind x w₁ w₂ (rw (im, jn) at p) (rw (im, jn) at q))

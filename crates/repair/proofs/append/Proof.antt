@@ -1,0 +1,74 @@
+-- `append` meets its contract: the separator, the right node's elements and its children stand behind the left node's own.
+use mathlib.Core.Path.{_≡_, _∙_}
+use mathlib.Core.Logic.{inl, inr, ⊎-elim}
+use native.Mathlib.Omega.{arith}
+use borrow.Author.Needs.{needs}
+use denote.Ref.{now}
+use lib.ListN.{length, length-set}
+use Rattle.repair.proofs.Pieces.{Bounds, bounds, one-first, appended}
+use Rattle.repair.proofs.append.Statement.{statement}
+use Rattle.repair.proofs.append.Tie as tie
+
+-- after both counts and both sizes were read
+known : (c : tie.After-length-at2) →
+    let s = c .before .before .before .before .before .before .before .before .before in
+    Bounds (now (s .args .pool)) (s .args .l) (s .args .r) (c .before .before .before .before .before .before .count-at .result)
+    (c .before .before .before .before .count-at2 .result) (c .before .before .length-at .result) (c .length-at2 .result)
+known c =
+    let d = c .before .before .before .before in
+    bounds (d .before .before .before .before .before .pre) (d .before .before .count-at .ensures) (d .count-at2 .ensures)
+    (c .before .before .length-at .ensures) (c .length-at2 .ensures)
+
+-- at the end
+long : (c : tie.After-slice-known3) → length (c .before .before .copy-run2 .last .0) ≡ length
+    (now (c .before .before .before .before .before .before .before .before .before .before .before
+    .before .before .before .before .before .before .before .before .args .pool))
+long c = c .before .before .copy-run2 .kept .0 ∙ simp length-set at (c .before .before .before .before .before .before .copy-run .kept .0)
+
+returns : tie.Need-returns
+returns c s =
+    let d = c .before .before .before .before .before .before .before .before in
+    let e = d .before .before in
+    appended s _ _ (d .before .start-of .ensures) (d .start-of2 .ensures) _ _ _ _ _ _ _
+    (e .before .before .before .before .before .before .count-at .ensures) (e .before .before .before .before .count-at2 .ensures)
+    (e .before .before .length-at .ensures) (e .length-at2 .ensures)
+    (c .before .before .before .before .before .before .copy-run .ensures) (c .before .before .copy-run2 .ensures)
+
+pub append-spec : {M : Type 1} → statement M
+append-spec =
+    tie.close
+    (tie.spec (λ c κs. search needs) (λ c κs. search needs) (λ c κs. search needs) (λ c κs. search needs)
+    (λ c. omega (arith, known c)) (λ c. omega (arith, known c)) (λ c κs. search needs) (λ c κs. search needs)
+    (λ c. search needs)
+    (λ c. omega (arith, known (c .before .before))) (λ c. omega (arith, known (c .before .before))) (λ c. omega (arith, known (c .before .before)))
+    (λ c. search needs) (λ c. search needs) (λ c. omega (arith, known (c .before .before .before)))
+    (λ c. omega (arith, known (c .before .before .before)))
+    (λ c κs. simp length-set (
+      omega (arith, known (c .before .before .before)),
+      (
+        omega (arith, known (c .before .before .before)),
+        ⊎-elim (λ g. inl (omega (arith, known (c .before .before .before)))) (λ g. inr (omega (arith, known (c .before .before .before))))
+            (one-first (c .before .before .before .before .before .before .before .before .before .before .before .before .pre)),
+      ),
+    ))
+    (λ c. search needs) (λ c. search needs) (λ c. omega (arith, known (c .before .before .before .before .before .before .before)))
+    (λ c. omega (arith, known (c .before .before .before .before .before .before .before)))
+    (λ c. omega (arith, known (c .before .before .before .before .before .before .before)))
+    (λ c κs.
+    let q = simp length-set at (c .before .before .before .copy-run .kept .0) in (
+      omega (arith, known (c .before .before .before .before .before .before .before)),
+      (
+        omega (arith, known (c .before .before .before .before .before .before .before)),
+        ⊎-elim (λ g. inl (omega (arith, known (c .before .before .before .before .before .before .before))))
+            (λ g. inr (omega (arith, known (c .before .before .before .before .before .before .before))))
+            (one-first (c .before .before .before .before .before .before .before .before .before
+            .before .before .before .before .before .before .before .pre)),
+      ),
+    ))
+    (λ c. omega (arith, known (c .before .before .before .before .before .before .before .before .before .before)))
+    (λ c. omega (arith, known (c .before .before .before .before .before .before .before .before .before .before)))
+    (λ c. search needs) (λ c. search needs) (λ c. omega
+    (arith, known (c .before .before .before .before .before .before .before .before .before .before), long c)) (λ c. search needs)
+    (λ c. search needs)
+    (λ c. simp length-set (omega (arith, known (c .before .before .before .before .before .before .before .before .before .before), long c)))
+    (λ c. simp length-set (long c)) returns)

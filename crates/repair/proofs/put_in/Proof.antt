@@ -1,0 +1,45 @@
+-- `put_in` meets its contract: the two gaps opened take the piece in.
+use mathlib.Core.Path.{_≡_}
+use native.Mathlib.Omega.{arith}
+use borrow.Author.Needs.{needs}
+use denote.Ref.{now}
+use lib.ListN.{length, getD, length-set}
+use Rattle.repair.proofs.Pieces.{part, part-long, part-count, part-size, put-in}
+use Rattle.repair.proofs.put_in.Statement.{statement}
+use Rattle.repair.proofs.put_in.Tie as tie
+
+-- what the code reads, and the length of what is lent
+known : (c : tie.After-start-of) →
+    let b = part (now (c .before .before .args .pool)) (c .start-of .result) in
+    let m = c .before .before .pre .seated .node in
+    (length b ≡ 66) × (getD b 0 0 ≡ length (m .elems)) × (getD b 1 0 ≡ m .size)
+known c =
+    let s = c .before .before .pre .seated in
+    let e = c .start-of .ensures in
+    (part-long s _ e, part-count s _ e, part-size s _ e)
+
+returns : tie.Need-returns
+returns c s =
+    let b = c .before .before .before .before in
+    put-in s _ (b .before .before .before .before .before .before .before .before .before .start-of .ensures) _ _ _ _
+    (b .before .before .before .before .open-gap .ensures) (b .open-gap2 .ensures)
+
+pub put-in-spec : {M : Type 1} → statement M
+put-in-spec =
+    tie.close
+    (tie.spec (λ c κs. search needs) (λ c. search needs) (λ c. search needs) (λ c. search needs) (λ c. search needs) (λ c. search needs)
+    (λ c. search needs) (λ c. search needs) (λ c. search needs) (λ c. omega (arith, known (c .before .before .before .before)))
+    (λ c κs. omega (arith, known (c .before .before .before .before))) (λ c. search needs)
+    (λ c. omega (arith, known (c .before .before .before .before .before .before .before .before)))
+    (λ c. omega (arith, known (c .before .before .before .before .before .before .before .before)))
+    (λ c κs. omega (arith, known (c .before .before .before .before .before .before .before .before), c .before .before .before .open-gap .kept))
+    (λ c. omega (arith, known (c .before .before .before .before .before .before .before .before .before .before .before))) (λ c. search needs)
+    (λ c. omega (arith, known (c .before .before .before .before .before .before .before .before .before .before .before)))
+    (λ c. simp length-set (omega (
+      arith,
+      known
+          (c .before .before .before .before .before .before .before .before .before .before .before),
+      c .before .before .open-gap2 .kept,
+      c .before .before .before .before .before .before .open-gap .kept,
+    )))
+    (λ c. search needs) returns)
