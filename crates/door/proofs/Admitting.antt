@@ -14,16 +14,16 @@ use Rattle.calls.specs.Does.{Ready}
 use Rattle.sound.specs.declared.Checked.{Checked}
 use Rattle.sound.specs.Check.{Checks}
 use Rattle.door.specs.declared.Admitted.{Admitted}
-use Rattle.door.specs.Promise.{Promise, Admits}
+use Rattle.door.specs.Promise.{Promise, Tells, unknown, admitted}
 use Rattle.door.proofs.One.{decided}
 
 -- ---- by what the check says
 
 module _ {w : List ℕ} {c : Checked} (C : Checks w c) where
-  pub admits-refused : (c .number ≡ 0 → ⊥) → (k : Known) → Admits w (record { number = c .number; known = k })
-  admits-refused z k = record {
-    misfit = λ n. ap (λ (r : Checked). r .number) (C .misfit n);
-    unsound = λ s u. ap (λ (r : Checked). r .number) (C .unsound s u);
+  pub admits-refused : (c .number ≡ 0 → ⊥) → Tells unknown admitted w (unknown (c .number))
+  admits-refused z = record {
+    misfit = λ n. ap (λ (r : Checked). unknown (r .number)) (C .misfit n);
+    unsound = λ s u. ap (λ (r : Checked). unknown (r .number)) (C .unsound s u);
     holds = λ b H. absurd (z (ap (λ (r : Checked). r .number) (C .sound b H)));
   }
 
@@ -35,11 +35,11 @@ module _ {w : List ℕ} {c : Checked} (C : Checks w c) where
       (λ b H. omega (arith, holds-parts H .sized))
 
   pub admits-known : c .number ≡ 0 → (k : Known) → k ≡ record { root = getD w rootWord 0; levels = c .levels; free = c .free }
-      → Admits w (record { number = 0; known = k })
+      → Tells unknown admitted w (record { number = 0; known = k })
   admits-known z k e = record {
     misfit = λ n. absurd (omega (arith, ap (λ (r : Checked). r .number) (C .misfit n)));
     unsound = λ s u. absurd (omega (arith, ap (λ (r : Checked). r .number) (C .unsound s u)));
-    holds = λ b H. (refl, e ∙ is b H);
+    holds = λ b H. ap (λ (m : Known). record { number = 0; known = m }) (e ∙ is b H);
   }
     where
       is : (b : Bag) → Holds w b → _≡_ {A = Known} (record { root = getD w rootWord 0; levels = c .levels; free = c .free }) (knownOf b)
@@ -52,28 +52,31 @@ module _ {w : List ℕ} {c : Checked} (C : Checks w c) where
 
 -- ---- what a call makes of it
 
-module _ {w : List ℕ} {o : Admitted} (O : Admits w o) where
+module _ {w : List ℕ} {o : Admitted} (O : Tells unknown admitted w o) where
+  number : {a : Admitted} → o ≡ a → o .number ≡ a .number
+  number e = ap (λ (a : Admitted). a .number) e
+
   -- refused with 4 or 1
   pub refused-promise : {Four One : Type 0} {Held : Bag → Type 0} → (o .number ≡ 0 → ⊥) → (o .number ≡ 4 → Four) → (o .number ≡ 1 → One)
       → Promise w Four One Held
   refused-promise z f g = record {
-    misfit = λ n. f (O .misfit n);
-    unsound = λ s u. g (O .unsound s u);
-    holds = λ b H. absurd (z (O .holds b H .0));
+    misfit = λ n. f (number (O .misfit n));
+    unsound = λ s u. g (number (O .unsound s u));
+    holds = λ b H. absurd (z (number (O .holds b H)));
   }
 
   -- the pool holds a bag, of which this is known
   module _ (z : o .number ≡ 0) where
     ready : (b : Bag) → Holds w b → Ready w (o .known)
-    ready b H = record { bag = b; holds = H; is = O .holds b H .1 }
+    ready b H = record { bag = b; holds = H; is = ap (λ (a : Admitted). a .known) (O .holds b H) }
 
     pub held-promise : {Four One : Type 0} {Held : Bag → Type 0} → ((s : Ready w (o .known)) → Held (s .bag)) → Promise w Four One Held
     unfolding ready
     held-promise f = record {
-      misfit = λ n. absurd (omega (arith, O .misfit n));
-      unsound = λ s u. absurd (omega (arith, O .unsound s u));
+      misfit = λ n. absurd (omega (arith, number (O .misfit n)));
+      unsound = λ s u. absurd (omega (arith, number (O .unsound s u)));
       holds = λ b H. f (ready b H);
     }
 
     pub some-ready : Ready w (o .known)
-    some-ready = decided w (λ n. absurd (omega (arith, O .misfit n))) (λ s u. absurd (omega (arith, O .unsound s u))) ready
+    some-ready = decided w (λ n. absurd (omega (arith, number (O .misfit n)))) (λ s u. absurd (omega (arith, number (O .unsound s u)))) ready

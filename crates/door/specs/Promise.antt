@@ -29,9 +29,12 @@ Edits call w r w′ =
 abbrev pub Tells : {A : Type 0} → (ℕ → A) → (Bag → A) → List ℕ → A → Type 0
 Tells refuse ask w r = Promise w (r ≡ refuse 4) (r ≡ refuse 1) (λ b. r ≡ ask b)
 
--- a pool that is admitted: the refusal, or what is known of the bag
-abbrev pub Admits : List ℕ → Admitted → Type 0
-Admits w r = Promise w (r .number ≡ 4) (r .number ≡ 1) (λ b. (r .number ≡ 0) × (r .known ≡ knownOf b))
+-- a pool that is admitted: the refusal and nothing known, or what is known of the bag
+abbrev pub unknown : ℕ → Admitted
+unknown n = record { number = n; known = record { root = 0; levels = 0; free = 0 } }
+
+abbrev pub admitted : Bag → Admitted
+admitted b = record { number = 0; known = knownOf b }
 
 -- equality: the first pool is tried, then the second
 abbrev pub Compares : List ℕ → List ℕ → Answer → Type 0

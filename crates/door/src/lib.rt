@@ -1,7 +1,7 @@
 // The calls that firmware makes, on any words at all. Each checks the pool in full, and refuses by 01's numbers.
 ghost use Rattle.model.specs.Calls.{refused, checkCall, lenCall, getCall, skipCall, stays, insertCall, pushCall, replaceCall, removeCall};
 ghost use Rattle.calls.specs.Part.{nowhere, partCall};
-ghost use Rattle.door.specs.Promise.{Edits, Tells, Admits, Compares, Formats, Windows};
+ghost use Rattle.door.specs.Promise.{Edits, Tells, unknown, admitted, Compares, Formats, Windows};
 use calls::Span;
 use calls::give;
 use calls::refuse;
@@ -16,8 +16,8 @@ pub struct Admitted {
 }
 
 // Checks the pool in full.
-fn admit(pool: &[u64]) -> Admitted
-    ensures { λ r. ⌜ Admits (now (pool .entry)) r ⌝ }
+pub fn admit(pool: &[u64]) -> Admitted
+    ensures { λ r. ⌜ Tells unknown admitted (now (pool .entry)) r ⌝ }
 {
     let c = sound::check(pool);
     if c.number != 0 {

@@ -1,17 +1,20 @@
 -- The laws of numbers in bytes.
 use mathlib.Core.Path.{_≡_, refl, sym, ap, subst, _∙_}
 use mathlib.Core.List.{List, [], _∷_, _++_}
+use mathlib.Core.Bool.{Bool, true, false, cond}
 use Prim.Native.Nat.{ℕ, zero, suc, _+_, _-_, _*_, _/_, _^_, _≤_, _<_}
 use native.Mathlib.Omega.{arith}
+use lib.Dec.{leb}
 use lib.ListN.{length, getD}
 use lib.Pow.{pow-add, pow-mono}
 use Rattle.words.specs.Words.{run}
 use Rattle.words.proofs.Laws.{run-cons}
 use Rattle.records.specs.Numbers.{bytesOf, numberOf}
-use borrow.Author.Tests.{le-leb, lt-leb}
-use Rattle.records.specs.Commands.{bodyOf, commandAt, Stands, nextAt}
+use borrow.Author.Tests.{leb-true, le-leb, lt-leb}
+use Rattle.records.specs.Commands.{bodyOf, commandAt, Stands, wholeAt, nextAt}
 use Rattle.records.specs.declared.Body.{Body}
 use Rattle.records.specs.declared.Body.the-variants.{Bytes, Unknown}
+use Rattle.records.specs.declared.Next.{Next}
 use Rattle.records.specs.declared.Next.the-variants.{End, UnknownKind, CutShort, Whole}
 
 pub bytes-length : (n x : ℕ) → length (bytesOf n x) ≡ n
@@ -72,3 +75,24 @@ module _ (s : List ℕ) (at : ℕ) (h : at < length s) where
   pub next-whole : {n : ℕ} → bodyOf (getD s at 0) ≡ Bytes n → at + 1 + n ≤ length s → nextAt s at ≡ Whole (commandAt s at) (n + 1)
   unfolding nextAt
   next-whole {n} e l = rw (lt-leb (length s) at h, e, le-leb (at + 1 + n) (length s) l)
+
+-- a whole command has a byte or more, and ends in the input
+abbrev pub Fits : List ℕ → ℕ → Next → Type 0
+Fits s at End = Unit {0}
+Fits s at UnknownKind = Unit {0}
+Fits s at CutShort = Unit {0}
+Fits s at (Whole c n) = (1 ≤ n) × (at + n ≤ length s)
+
+pub next-fits : (s : List ℕ) (at : ℕ) → Fits s at (nextAt s at)
+unfolding nextAt
+next-fits s at = ended (leb (length s) at)
+  where
+    whole : (n : ℕ) (b : Bool) → leb (at + 1 + n) (length s) ≡ b → Fits s at (cond b (Whole (commandAt s at) (n + 1)) CutShort)
+    whole n true e = (omega arith, omega (arith, leb-true (at + 1 + n) (length s) e))
+    whole n false e = tt
+    known : (b : Body) → Fits s at (wholeAt s at b)
+    known Unknown = tt
+    known (Bytes n) = whole n (leb (at + 1 + n) (length s)) refl
+    ended : (b : Bool) → Fits s at (cond b End (wholeAt s at (bodyOf (getD s at 0))))
+    ended true = tt
+    ended false = known (bodyOf (getD s at 0))

@@ -8,7 +8,7 @@ use lib.ListN.{length, getD}
 use Rattle.records.specs.declared.Body.{Body}
 use Rattle.records.specs.declared.Body.the-variants.{Bytes, Unknown}
 use Rattle.records.specs.declared.Command.{Command}
-use Rattle.records.specs.declared.Command.the-variants.{Insert, Remove, Push, Get, Replace, Length}
+use Rattle.records.specs.declared.Command.the-variants.{Insert, Remove, Push, Get, Replace, Len}
 use Rattle.records.specs.declared.Next.{Next}
 use Rattle.records.specs.declared.Next.the-variants.{End, UnknownKind, CutShort, Whole}
 use Rattle.records.specs.Numbers.{numberAt}
@@ -36,7 +36,7 @@ commandAt s at =
     (4, Get index) ∷
     (5, Replace index element) ∷
     [])
-    Length
+    Len
     (getD s at 0)
 
 -- a kind that is known, and all of its body

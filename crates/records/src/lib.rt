@@ -23,7 +23,7 @@ pub enum Command {
     Push(u64),
     Get(u64),
     Replace(u64, u64),
-    Length,
+    Len,
 }
 
 // What stands at a place of the input; a whole command with its length in bytes.
@@ -105,7 +105,7 @@ fn read_command(s: &[u8], at: usize) -> Command
         3 => Command::Push(read_number(s, at + 1, 8)),
         4 => Command::Get(read_number(s, at + 1, 4)),
         5 => Command::Replace(read_number(s, at + 1, 4), read_number(s, at + 5, 8)),
-        _ => Command::Length,
+        _ => Command::Len,
     }
 }
 

@@ -5,7 +5,7 @@ use Rattle.door.proofs.admit.Statement.{statement}
 use Rattle.door.proofs.admit.Tie as tie
 
 returns : tie.Need-returns
-returns c = admits-refused (c .before .before .check .ensures) (c .if1 .taken) _
+returns c = admits-refused (c .before .before .check .ensures) (c .if1 .taken)
 
 known-of-requires : tie.Need-known-of-requires
 known-of-requires c κs = admits-long (c .before .before .check .ensures) (c .if1 .left)
