@@ -14,6 +14,9 @@ use borrow.Author.Tests.{leb-true, le-leb, lt-leb}
 use Rattle.records.specs.Commands.{bodyOf, commandAt, Stands, wholeAt, nextAt}
 use Rattle.records.specs.declared.Body.{Body}
 use Rattle.records.specs.declared.Body.the-variants.{Bytes, Unknown}
+use Rattle.records.specs.Answers.{recordBytes, longestRecord}
+use Rattle.records.specs.declared.Record.{Record}
+use Rattle.records.specs.declared.Record.the-variants.{Done, Element, Length, Refusal, Got}
 use Rattle.records.specs.declared.Next.{Next}
 use Rattle.records.specs.declared.Next.the-variants.{End, UnknownKind, CutShort, Whole}
 
@@ -90,9 +93,21 @@ next-fits s at = ended (leb (length s) at)
     whole : (n : ℕ) (b : Bool) → leb (at + 1 + n) (length s) ≡ b → Fits s at (cond b (Whole (commandAt s at) (n + 1)) CutShort)
     whole n true e = (omega arith, omega (arith, leb-true (at + 1 + n) (length s) e))
     whole n false e = tt
+
     known : (b : Body) → Fits s at (wholeAt s at b)
     known Unknown = tt
     known (Bytes n) = whole n (leb (at + 1 + n) (length s)) refl
+
     ended : (b : Bool) → Fits s at (cond b End (wholeAt s at (bodyOf (getD s at 0))))
     ended true = tt
     ended false = known (bodyOf (getD s at 0))
+
+-- ---- answers
+
+pub record-length : (r : Record) → length (recordBytes r) ≤ longestRecord
+unfolding recordBytes
+record-length Done = omega arith
+record-length (Element x) = omega arith
+record-length (Length n) = omega arith
+record-length (Refusal n) = omega arith
+record-length (Got x n) = omega arith

@@ -1,0 +1,3 @@
+-- The laws of a batch.
+pub mod Turns
+pub mod Going

@@ -1,0 +1,77 @@
+-- The laws of a batch's turns: which one comes, and what it means for the rest.
+use mathlib.Core.Path.{_≡_, refl, sym, ap, subst, _∙_}
+use mathlib.Core.List.{List}
+use mathlib.Core.Bool.{Bool, true, false, cond}
+use Prim.Native.Nat.{ℕ, zero, suc, _+_, _-_, _≤_, _<_}
+use native.Mathlib.Omega.{arith}
+use borrow.Author.Tests.{ltb-false, lt-ltb, le-ltb}
+use lib.Dec.{ltb}
+use lib.ListN.{length}
+use Rattle.records.specs.declared.Command.{Command}
+use Rattle.records.specs.declared.Next.{Next}
+use Rattle.records.specs.declared.Next.the-variants.{End, UnknownKind, CutShort, Whole}
+use Rattle.records.specs.Commands.{nextAt}
+use Rattle.records.specs.Answers.{longestRecord}
+use Rattle.records.proofs.Laws.{Fits, next-end, next-fits}
+use Rattle.batch.specs.declared.Turn.{Turn}
+use Rattle.batch.specs.declared.Turn.the-variants.{Stop, Run}
+use Rattle.batch.specs.Steps.{turnOf, turnAt, Reply, Progress, Ended, advanced, batchFrom}
+
+-- ---- which turn comes
+
+module _ (s : List ℕ) (at room : ℕ) where
+  pub turn-next : {x : Next} → nextAt s at ≡ x → turnAt s at room ≡ turnOf x room
+  unfolding turnAt
+  turn-next e = rw e
+
+  pub turn-full : {c : Command} {n : ℕ} → nextAt s at ≡ Whole c n → room < longestRecord → turnAt s at room ≡ Stop 7
+  turn-full {c} {n} e l = turn-next e ∙ rw (lt-ltb room longestRecord l)
+
+  pub turn-run : {c : Command} {n : ℕ} → nextAt s at ≡ Whole c n → longestRecord ≤ room → turnAt s at room ≡ Run c n
+  turn-run {c} {n} e l = turn-next e ∙ rw (le-ltb room longestRecord l)
+
+  -- a command that is run has a byte or more, ends in the input, and has room for its record
+  abbrev pub Runnable : Turn → Type 0
+  Runnable (Stop k) = Unit {0}
+  Runnable (Run c n) = (1 ≤ n) × (at + n ≤ length s) × (longestRecord ≤ room)
+
+  pub runnable : Runnable (turnAt s at room)
+  unfolding turnAt
+  runnable = go (nextAt s at) (next-fits s at)
+    where
+      fits : (c : Command) (n : ℕ) → (1 ≤ n) × (at + n ≤ length s) → (b : Bool) → ltb room longestRecord ≡ b → Runnable (cond b (Stop 7) (Run c n))
+      fits c n f true e = tt
+      fits c n f false e = (f .0, f .1, ltb-false room longestRecord e)
+
+      go : (x : Next) → Fits s at x → Runnable (turnOf x room)
+      go End f = tt
+      go UnknownKind f = tt
+      go CutShort f = tt
+      go (Whole c n) f = fits c n f (ltb room longestRecord) refl
+
+-- ---- the rest of a batch
+
+module _ {S : Type 0} (engine : Command → S → Reply S) (input : List ℕ) (size : ℕ) (p : Progress S) where
+  abbrev number : Turn → ℕ
+  number (Stop n) = n
+  number (Run c n) = 0
+
+  pub batch-stops : (left : ℕ) → length input ≤ p .read + left → (n : ℕ) → turnAt input (p .read) (size - length (p .answers)) ≡ Stop n
+      → batchFrom engine input size left p ≡ record { number = n; progress = p }
+  unfolding batchFrom
+  batch-stops zero enough n e =
+      let z : 0 ≡ n = ap number (sym (turn-next input (p .read) _ (next-end input (p .read) (omega arith))) ∙ e) in
+      ap (λ (m : ℕ). record { number = m; progress = p }) z
+  batch-stops (suc left) enough n e = rw (e, batchFrom)
+
+  -- a command leaves a turn less, and there was one
+  pub batch-goes : (left : ℕ) → length input ≤ p .read + left → (c : Command) (n : ℕ)
+      → turnAt input (p .read) (size - length (p .answers)) ≡ Run c n
+      → batchFrom engine input size left p ≡ batchFrom engine input size (left - 1) (advanced engine c n p)
+  unfolding batchFrom
+  batch-goes zero enough c n e =
+      let f = subst (Runnable input (p .read) (size - length (p .answers))) e (runnable input (p .read) (size - length (p .answers))) in
+      absurd (omega (arith, f .0, f .1))
+  batch-goes (suc left) enough c n e =
+      let d : suc left - 1 ≡ left = omega arith in
+      rw (d, e, batchFrom)

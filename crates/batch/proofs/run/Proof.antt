@@ -1,0 +1,60 @@
+-- `run` meets its contract. Invariant: the batch has come so far (`Going`). Measure: the input that is left.
+use mathlib.Core.Path.{_≡_, refl, sym, _∙_}
+use Prim.Native.Nat.{ℕ, _+_, _-_, _^_, _≤_, _<_}
+use native.Mathlib.Omega.{arith}
+use borrow.Author.Needs.{needs}
+use denote.Ref.{now}
+use lib.ListN.{length}
+use Rattle.calls.specs.Does.{Ready}
+use Rattle.batch.proofs.Going.{Going, begins, now-ready, same-room, stops, can-run, goes}
+use Rattle.batch.proofs.run.Statement.{statement}
+use Rattle.batch.proofs.run.Tie as tie
+
+abbrev Inv-loop : tie.InvT-loop
+Inv-loop pool₀ input output₀ k₀ commands₀ read₀ written₀ pool output k commands read written =
+    (length pool ≡ length pool₀) × ((s : Ready pool₀ k₀) → Going (s .bag) input output₀ pool output k commands read written)
+
+abbrev μ-loop : tie.MeasureT-loop
+μ-loop pool₀ input output₀ k₀ commands₀ read₀ written₀ pool output k commands read written = length input - read
+
+returns : tie.Need-returns Inv-loop μ-loop
+returns c s =
+    let l = c .before .before .before .before in
+    stops (l .loop .inv .1 s) _ (sym (c .before .before .before .turn-at .ensures) ∙ c .before .turn .given .1)
+
+-- the turn of a command: it ends in the input, its record has room, and there were no more commands than bytes
+runs : (c : tie.After-known-told2 Inv-loop μ-loop) →
+    let l = c .before .before .before .before .loop in
+    let n = c .before .turn2 .given .0 .1 .0 in
+    (1 ≤ n) × (l .read + n ≤ length (now (c .before .before .before .before .before .before .before .before .args .input))) × (13 ≤ length (l .output) - l .written)
+    × (l .commands ≤ l .read) × (length (now (c .before .before .before .before .before .before .before .before .args .input)) < 2 ^ 64)
+runs c =
+    let G = c .before .before .before .before .loop .inv .1 (c .before .before .before .before .before .before .before .before .pre) in
+    let f = can-run G _ _ (sym (c .before .before .before .turn-at .ensures) ∙ c .before .turn2 .given .1) in
+    (f .0, f .1, f .2, G .few, c .before .before .before .before .before .before .before .before .good .1 .1 .0 .0)
+
+loop-again : tie.Need-loop-again Inv-loop μ-loop
+loop-again c =
+    let t = c .before .before .before .before .before .before .before .before in
+    let l = t .before .before .before .before .before .before in
+    let e = sym (t .before .before .before .before .before .turn-at .ensures) ∙ t .before .before .before .turn2 .given .1 in (
+      t .perform .kept .0 ∙ l .loop .inv .0,
+      λ s.
+          let G = l .loop .inv .1 s in
+          goes G _ _ e _ (t .perform .ensures (now-ready G)) (c .before .before .before .before .reply-to .ensures) (c .before .before .before .write-record .ensures .0)
+          (c .before .before .before .write-record .ensures .1),
+    )
+
+pub run-spec : {M : Type 1} → statement M
+run-spec =
+    tie.close
+    (tie.spec Inv-loop μ-loop (λ c. (refl, λ s. begins s _ _))
+    (λ c. let G = c .loop .inv .1 (c .before .before .before .before .pre) in omega (arith, G .fits, same-room G))
+    (λ c κs. search needs) (λ c. search needs)
+    (λ c. c .before .before .before .before .loop .inv .0) (λ c. same-room (c .before .before .before .before .loop .inv .1 (c .before .before .before .before .before .before .before .before .pre)))
+    returns
+    (λ c. search needs)
+    (λ c κs. now-ready (c .before .before .before .before .before .loop .inv .1 (c .before .before .before .before .before .before .before .before .before .pre)))
+    (λ c κs. search needs)
+    (λ c κs. omega (arith, runs (c .before .before .before .before .before .before))) (λ c. omega (arith, runs (c .before .before .before .before .before .before .before .before .before .before))) (λ c. omega (arith, runs (c .before .before .before .before .before .before .before .before .before .before)))
+    (λ c. omega (arith, runs (c .before .before .before .before .before .before .before .before .before .before))) loop-again)
