@@ -74,7 +74,7 @@ module _ {b : Bag} {input out w o : List ℕ} {k : Known} {commands read written
 
   -- or goes on with a command
   module _ (c : Command) (n : ℕ) (e : turnAt input read (length o - written) ≡ Run c n) where
-    pub can-run : (1 ≤ n) × (read + n ≤ length input) × (longestRecord ≤ length o - written)
+    pub can-run : Runnable input read (length o - written) (Run c n)
     can-run = subst (Runnable input read (length o - written)) e (runnable input read (length o - written))
 
     pub goes : {d : Done} {w′ o′ : List ℕ} {written′ : ℕ} (r : Record) → Does (perform c) (G .bag) d w′ → r ≡ replyTo c (d .answer)

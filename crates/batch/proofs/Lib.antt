@@ -1,3 +1,4 @@
 -- The laws of a batch.
 pub mod Turns
 pub mod Going
+pub mod Singly

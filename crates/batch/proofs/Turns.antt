@@ -33,21 +33,21 @@ module _ (s : List ℕ) (at room : ℕ) where
   -- a command that is run has a byte or more, ends in the input, and has room for its record
   abbrev pub Runnable : Turn → Type 0
   Runnable (Stop k) = Unit {0}
-  Runnable (Run c n) = (1 ≤ n) × (at + n ≤ length s) × (longestRecord ≤ room)
+  Runnable (Run c n) = (1 ≤ n) × (at + n ≤ length s) × (longestRecord ≤ room) × (nextAt s at ≡ Whole c n)
 
   pub runnable : Runnable (turnAt s at room)
   unfolding turnAt
-  runnable = go (nextAt s at) (next-fits s at)
+  runnable = go (nextAt s at) refl (next-fits s at)
     where
-      fits : (c : Command) (n : ℕ) → (1 ≤ n) × (at + n ≤ length s) → (b : Bool) → ltb room longestRecord ≡ b → Runnable (cond b (Stop 7) (Run c n))
-      fits c n f true e = tt
-      fits c n f false e = (f .0, f .1, ltb-false room longestRecord e)
-
-      go : (x : Next) → Fits s at x → Runnable (turnOf x room)
-      go End f = tt
-      go UnknownKind f = tt
-      go CutShort f = tt
-      go (Whole c n) f = fits c n f (ltb room longestRecord) refl
+      fits : (c : Command) (n : ℕ) → nextAt s at ≡ Whole c n → (1 ≤ n) × (at + n ≤ length s) → (b : Bool) → ltb room longestRecord ≡ b
+          → Runnable (cond b (Stop 7) (Run c n))
+      fits c n e f true q = tt
+      fits c n e f false q = (f .0, f .1, ltb-false room longestRecord q, e)
+      go : (x : Next) → nextAt s at ≡ x → Fits s at x → Runnable (turnOf x room)
+      go End e f = tt
+      go UnknownKind e f = tt
+      go CutShort e f = tt
+      go (Whole c n) e f = fits c n e f (ltb room longestRecord) refl
 
 -- ---- the rest of a batch
 

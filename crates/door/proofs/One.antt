@@ -1,5 +1,5 @@
 -- Each promise admits one result, and one final value of each lent slice; and what is to be told can be.
-use mathlib.Core.Path.{_≡_, refl, sym, ap, _∙_}
+use mathlib.Core.Path.{_≡_, refl, sym, _∙_}
 use mathlib.Core.List.{List}
 use mathlib.Core.Logic.{_⊎_, inl, inr}
 use Prim.Native.Nat.{ℕ}
@@ -7,10 +7,11 @@ use Rattle.model.specs.declared.Answer.{Answer}
 use Rattle.model.specs.Tree.{Bag}
 use Rattle.model.specs.Calls.{Outcome, refused, equalCall}
 use Rattle.pool.specs.Sound.{Holds, Sound, Sized}
-use Rattle.pool.proofs.Read.{one-bag, one-pool}
+use Rattle.pool.proofs.Read.{one-pool}
 use Rattle.pool.proofs.Sized.{holds-sized}
 use Rattle.pool.proofs.Decide.{sized?, sound?}
 use Rattle.calls.specs.Part.{nowhere, partCall}
+use Rattle.door.proofs.Kept.{Lawfully, left-words, edits-held, tells-held}
 use Rattle.door.specs.Promise.{Edits, Tells, Compares, Formats, Windows}
 
 -- every list of words is of one of the three kinds
@@ -39,10 +40,15 @@ tells-some refuse ask w =
     decided w
     (λ n. (refuse 4, record { misfit = λ _. refl; unsound = λ z _. absurd (n z); holds = λ b H. absurd (n (holds-sized H)) }))
     (λ z u. (refuse 1, record { misfit = λ n. absurd (n z); unsound = λ _ _. refl; holds = λ b H. absurd (u (b, H)) }))
-    (λ b H. (
-      ask b,
-      record { misfit = λ n. absurd (n (holds-sized H)); unsound = λ _ u. absurd (u (b, H)); holds = λ c K. ap ask (one-bag H K) },
-    ))
+    (λ b H. (ask b, tells-held refuse ask H))
+
+-- an edit too, by the words of the bag that the call leaves
+pub edits-some : (call : Bag → Outcome) → Lawfully call → (w : List ℕ) → (r : Answer) × (w′ : List ℕ) × Edits call w r w′
+edits-some call K w =
+    decided w
+    (λ n. (refused 4, w, record { misfit = λ _. (refl, refl); unsound = λ z _. absurd (n z); holds = λ b H. absurd (n (holds-sized H)) }))
+    (λ z u. (refused 1, w, record { misfit = λ n. absurd (n z); unsound = λ _ _. (refl, refl); holds = λ b H. absurd (u (b, H)) }))
+    (λ b H. (call b .answer, left-words call K H .0, edits-held call H (left-words call K H .1)))
 
 pub compares-one : {v w : List ℕ} {r s : Answer} → Compares v w r → Compares v w s → r ≡ s
 compares-one {v} P Q =
