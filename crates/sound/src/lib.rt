@@ -16,7 +16,7 @@ use pool::length_at;
 use pool::length_fits;
 use pool::start_of;
 ghost use mathlib.Core.Path.{_≡_};
-ghost use Prim.Native.Nat.{ℕ, _+_, _*_, _<_, _≤_};
+ghost use Prim.Native.Nat.{ℕ, _+_, _*_, _^_, _<_, _≤_};
 ghost use lib.ListN.{length};
 ghost use Rattle.pool.specs.Layout.{headWords, nodeWords, block};
 ghost use Rattle.pool.specs.Parts.{Inside, countAt, kidIdsAt, levelsAt};
@@ -151,11 +151,29 @@ fn grown_kids(pool: &[u64], p: usize, marks: &mut [u64], k: usize, levels: usize
     true
 }
 
+// Whether p nodes can hold the fewest elements of a tree of `levels` inner levels: 2 · 16 ^ levels - 1. No power is taken that could wrap.
+fn within_reach(p: usize, levels: usize) -> bool
+    requires { ⌜ 31 * p + 1 < 2 ^ 64 ⌝ }
+    ensures { λ r. ⌜ Tells r (2 * 16 ^ levels ≤ 31 * p + 1) ⌝ }
+{
+    let mut left = (MOST * p + 1) / (LEAST_ROOT + 1);
+    let mut rest = levels;
+    while 0 < rest {
+        left = left / (LEAST + 1);
+        rest -= 1;
+    }
+    0 < left
+}
+
 // Whether the tree at node k is well shaped. Where nothing was marked before, its nodes are marked now.
+// Levels that no tree of p nodes has are refused first, so that the walk is never deep, whatever the words.
 pub fn shape(pool: &[u64], p: usize, marks: &mut [u64], k: usize, levels: usize) -> bool
     requires { ⌜ Room (now pool) p (now marks) ⌝ }
     ensures { λ r. ⌜ Shapes r (now (pool .entry)) p levels k (now (marks .entry)) (now (marks .exit)) ⌝ }
 {
+    if !within_reach(p, levels) {
+        return false;
+    }
     grown(pool, p, marks, k, levels, LEAST_ROOT)
 }
 
