@@ -5,11 +5,12 @@ use Prim.Native.Nat.{ℕ, suc, _+_, _-_, _*_, _/_, _^_, _≤_, _<_}
 use native.Mathlib.Nat.{pow-succ'}
 use native.Mathlib.Omega.{arith}
 use borrow.Author.Tests.{ltb-true, ltb-false}
+use Rattle.sound.specs.Shape.{InReach}
 use Rattle.sound.proofs.within_reach.Statement.{statement}
 use Rattle.sound.proofs.within_reach.Tie as tie
 
 abbrev Reach : ℕ → ℕ → ℕ → ℕ → Type 0
-Reach p levels left rest = (2 * 16 ^ levels ≤ 31 * p + 1 → 16 ^ rest ≤ left) × (16 ^ rest ≤ left → 2 * 16 ^ levels ≤ 31 * p + 1)
+Reach p levels left rest = (InReach p levels → 16 ^ rest ≤ left) × (16 ^ rest ≤ left → InReach p levels)
 
 one-less : (p levels left rest : ℕ) → 0 < rest → Reach p levels left rest → Reach p levels (left / 16) (rest - 1)
 one-less p levels left rest l R =
