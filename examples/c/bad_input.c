@@ -2,7 +2,10 @@
  * Every call on bad input, through bag.h. What it must answer is worked out here, from the rules and not by the library: `read_pool`
  * tells which words are sound and what list they hold, `find` and `needed` walk the tree, and an edit is made on an array.
  */
+#define _POSIX_C_SOURCE 200112L
 #include <inttypes.h>
+#include <limits.h>
+#include <pthread.h>
 #include <stdio.h>
 #include <string.h>
 
@@ -462,17 +465,6 @@ static void damage_many_words(void)
     pool[1] = 1;
     memset(pool + 2, 0, 66 * sizeof *pool);
     try_unsound("a tree that nothing leads to");
-    fill(BAG_MOST_NODES, 0);
-    pool[0] = 1;
-    pool[1] = 0;
-    for (uint64_t k = 1; k <= BAG_MOST_NODES; k++) {
-        pool[at(k, 0)] = 15;
-        pool[at(k, 33)] = k < BAG_MOST_NODES ? k + 1 : 0;
-        pool[at(k, 65)] = 0;
-    }
-    try_unsound("a tree as deep as it has nodes");
-    pool[at(BAG_MOST_NODES, 33)] = 1;
-    try_unsound("a child ring through every node");
 }
 
 static void try_damage(void)
@@ -488,6 +480,127 @@ static void try_damage(void)
     damage_tree(tree, base[1]);
     damage_chain(tree, base[1]);
     damage_many_words();
+}
+
+/* ---- the stack: no more on a large pool, or a damaged one, than bag.h says */
+
+#define SMALL_STACK 65536
+#define CALL_STACK 2048
+#define PAINTED 16384
+#define SPARED 256
+#define PAINT 0xA5
+#define CALLS 12
+
+static volatile uintptr_t top;
+static size_t most_stack;
+
+static uint64_t call_one(int call, uint64_t index)
+{
+    switch (call) {
+    case 0: return bag_check(pool, words).number;
+    case 1: return bag_len(pool, words).number;
+    case 2: return bag_insert(pool, words, index, 77).number;
+    case 3: return bag_push(pool, words, 77).number;
+    case 4: return bag_get(pool, words, index).number;
+    case 5: return bag_replace(pool, words, index, 77).number;
+    case 6: return bag_remove(pool, words, index).number;
+    case 7: return bag_step(pool, words, index).number;
+    case 8: return bag_skip(pool, words, index, 1).number;
+    case 9: return bag_equal(pool, words, pool, words).number;
+    case 10: return bag_window(pool, words, index).count == 0 ? BAG_UNSOUND : BAG_DONE;
+    default: return bag_format(pool, words).number;
+    }
+}
+
+/* Paints the stack below `top`, but for the frames that are in use. */
+static void paint(void)
+{
+    volatile unsigned char *low = (volatile unsigned char *)(top - PAINTED);
+    for (size_t i = 0; i < PAINTED - SPARED; i++)
+        low[i] = PAINT;
+}
+
+/* How much of it was written since. */
+static size_t written(void)
+{
+    const volatile unsigned char *low = (const volatile unsigned char *)(top - PAINTED);
+    size_t i = 0;
+    while (i < PAINTED - SPARED && low[i] == PAINT)
+        i++;
+    return PAINTED - i;
+}
+
+static void *call_each(void *nothing)
+{
+    volatile unsigned char here = 0;
+    top = (uintptr_t)&here;
+    for (int call = 0; call < CALLS; call++) {
+        paint();
+        uint64_t number = call_one(call, before.n / 2);
+        size_t stack = written();
+        most_stack = stack > most_stack ? stack : most_stack;
+        calls++;
+        EXPECT(stack <= CALL_STACK);
+        EXPECT(number == (call == CALLS - 1 ? BAG_DONE : before.number) && guarded());
+        restore();
+    }
+    return nothing;
+}
+
+/* Every call on the pool that was tried last, on a thread with little stack. */
+static void try_small_stack(void)
+{
+    pthread_attr_t attr;
+    pthread_t thread;
+    size_t least = PTHREAD_STACK_MIN;
+    int failed = pthread_attr_init(&attr) || pthread_attr_setstacksize(&attr, least < SMALL_STACK ? SMALL_STACK : least);
+    EXPECT(!failed && pthread_create(&thread, &attr, call_each, NULL) == 0 && pthread_join(thread, NULL) == 0);
+    pthread_attr_destroy(&attr);
+}
+
+/* A tree with some inner levels of some nodes, from node *next on, all as full as can be; returns its root. */
+static uint64_t plant(uint64_t nodes, int levels, uint64_t *next)
+{
+    uint64_t k = (*next)++, rest = nodes - 1, most = 0;
+    uint64_t *node = pool + at(k, 0);
+    for (int i = 0; i < levels; i++)
+        most = 1 + 32 * most;
+    uint64_t kids = levels == 0 ? 0 : (rest + most - 1) / most;
+    node[0] = node[1] = levels == 0 ? 31 : kids - 1;
+    node[65] = 0;
+    for (uint64_t i = 0; i < node[0]; i++)
+        node[2 + i] = any();
+    for (uint64_t c = 0; c < kids; c++) {
+        uint64_t share = rest / (kids - c);
+        rest -= share;
+        node[33 + c] = plant(share, levels - 1, next);
+        node[1] += pool[at(node[33 + c], 1)];
+    }
+    return k;
+}
+
+static void try_stack(void)
+{
+    uint64_t next = 1;
+    fill(BAG_MOST_NODES, 0);
+    pool[0] = plant(BAG_MOST_NODES - 5, 3, &next);
+    pool[1] = next;
+    try_pool("the largest pool, nearly full");
+    EXPECT(before.number == BAG_DONE && before.free == 5);
+    try_small_stack();
+    fill(BAG_MOST_NODES, 0);
+    pool[0] = 1;
+    pool[1] = 0;
+    for (uint64_t k = 1; k <= BAG_MOST_NODES; k++) {
+        pool[at(k, 0)] = 15;
+        pool[at(k, 33)] = k < BAG_MOST_NODES ? k + 1 : 0;
+        pool[at(k, 65)] = 0;
+    }
+    try_unsound("a tree as deep as it has nodes");
+    try_small_stack();
+    pool[at(BAG_MOST_NODES, 33)] = 1;
+    try_unsound("a child ring through every node");
+    try_small_stack();
 }
 
 /* ---- words at random: what is due is what `read_pool` says */
@@ -564,9 +677,10 @@ int main(void)
 {
     try_lengths();
     try_damage();
+    try_stack();
     try_each_word();
     try_random();
     try_equal();
-    printf("%lu calls tried, %lu expectations failed\n", calls, failures);
+    printf("%lu calls tried, %lu expectations failed; at most %zu bytes of stack to a call\n", calls, failures, most_stack);
     return failures != 0;
 }

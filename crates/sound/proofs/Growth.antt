@@ -1,9 +1,10 @@
 -- The first pass: the nodes below a node; well grown node by node is well shaped as a tree.
 use mathlib.Core.Path.{_≡_, refl, sym, ap, _∙_}
-use mathlib.Core.Bool.{Bool}
+use mathlib.Core.Bool.{Bool, false, false≢true}
 use mathlib.Core.List.{List, [], _∷_, _++_}
 use mathlib.Core.Logic.{inl, inr}
-use Prim.Native.Nat.{ℕ, zero, suc, _+_, _-_, _*_, _≤_, _<_}
+use Prim.Native.Nat.{ℕ, zero, suc, _+_, _-_, _*_, _^_, _≤_, _<_}
+use native.Mathlib.Nat.{pow-le-pow-right}
 use native.Mathlib.Decide.{decLe}
 use native.Mathlib.Omega.{arith}
 use lib.ListN.{length, length-map, length-take, length-drop}
@@ -15,13 +16,14 @@ use Rattle.words.specs.Words.{run}
 use Rattle.words.proofs.Laws.{run-length, run-getD}
 use Rattle.model.specs.Tree.{Tree, kid, none, ids}
 use Rattle.model.specs.Fit.{Child, Fit}
+use Rattle.model.proofs.Bounds.{size-most, height}
 use Rattle.pool.specs.Layout.{headWords, nodeWords, block}
 use Rattle.pool.specs.Parts.{Inside, countAt, kidIdsAt, treeAt, levelsAt}
 use Rattle.pool.proofs.Block.{length-block}
 use Rattle.pool.proofs.Whole.{Within}
 use Rattle.pool.proofs.Read.{levels-leaf, levels-inner, levels-nodes}
 use Rattle.marks.proofs.Laws.{seen-lt}
-use Rattle.sound.specs.Shape.{kidAt, Ends, WellShaped, Shapes, Sturdy, Grown, Grows, below}
+use Rattle.sound.specs.Shape.{kidAt, Ends, WellShaped, InReach, Shapes, Sturdy, Grown, Grows, below}
 use Rattle.sound.specs.Filled.{Readable}
 
 -- ---- the tree that is read off a node
@@ -234,3 +236,18 @@ module _ (w : List ℕ) (p : ℕ) (exact : length w ≡ headWords + nodeWords * 
   shape-levels {h} {k} W =
       let few = count-most (ids h (treeAt w h k)) (from 1 p) (W .once) in
       grown-levels p h 1 k (omega (arith, few, length-from 1 p, levels-nodes h (treeAt w h k) (W .fit .fit))) (shape-grown W)
+
+-- ---- the levels: the fewest elements of a tree with h inner levels, against the most that p nodes hold
+
+module _ {w : List ℕ} {p h k : ℕ} where
+  reach : WellShaped w p h k → InReach p h
+  reach W =
+      let t : Tree h = treeAt w h k in
+      let few = count-most (ids h t) (from 1 p) (W .once) in
+      omega (arith, height h t (W .fit), size-most h t (W .fit .fit), few, length-from 1 p)
+
+  pub too-deep : {m : List ℕ} → (InReach p h → ⊥) → Shapes false w p h k m m
+  too-deep f = record { good = λ t. absurd (false≢true t); bad = λ t W U. f (reach W); long = refl }
+
+pub reach-below : (p h : ℕ) → InReach p h → InReach p (h - 1)
+reach-below p h R = let l : 16 ^ (h - 1) ≤ 16 ^ h = pow-le-pow-right (omega arith) (omega arith) in omega arith

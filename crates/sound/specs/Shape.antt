@@ -2,7 +2,7 @@
 use mathlib.Core.Path.{_≡_}
 use mathlib.Core.Bool.{Bool, true, false}
 use mathlib.Core.List.{List, map}
-use Prim.Native.Nat.{ℕ, zero, suc, _+_, _*_, _≤_, _<_}
+use Prim.Native.Nat.{ℕ, zero, suc, _+_, _*_, _^_, _≤_, _<_}
 use lib.ListN.{length, getD}
 use Rattle.lists.specs.Lists.{concat, count, from}
 use Rattle.model.specs.Tree.{Tree, kid, ids}
@@ -48,6 +48,10 @@ pub record WellShaped (w : List ℕ) (p h k : ℕ) : Type 0 where
   pub fit : FitTree h (treeAt w h k)
   pub once : (j : ℕ) → count j (ids h (treeAt w h k)) ≤ count j (from 1 p)
   pub ends : Ends w h (treeAt w h k)
+
+-- the fewest elements of such a tree, 2 · 16 ^ h - 1, are no more than p nodes can hold
+abbrev pub InReach : ℕ → ℕ → Type 0
+InReach p h = 2 * 16 ^ h ≤ 31 * p + 1
 
 abbrev pub Shapes : Bool → List ℕ → ℕ → (h : ℕ) → ℕ → List ℕ → List ℕ → Type 0
 Shapes r w p h k m m′ = Claims r (WellShaped w p h k) m (ids h (treeAt w h k)) m′

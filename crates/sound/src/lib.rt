@@ -16,12 +16,12 @@ use pool::length_at;
 use pool::length_fits;
 use pool::start_of;
 ghost use mathlib.Core.Path.{_≡_};
-ghost use Prim.Native.Nat.{ℕ, _+_, _*_, _<_, _≤_};
+ghost use Prim.Native.Nat.{ℕ, _+_, _*_, _^_, _<_, _≤_};
 ghost use lib.ListN.{length};
 ghost use Rattle.pool.specs.Layout.{headWords, nodeWords, block};
 ghost use Rattle.pool.specs.Parts.{Inside, countAt, kidIdsAt, levelsAt};
 ghost use Rattle.marks.specs.Marks.{seen};
-ghost use Rattle.sound.specs.Shape.{Room, kidAt, Shapes, Sturdy, Grows, GrowsKids};
+ghost use Rattle.sound.specs.Shape.{Room, kidAt, InReach, Shapes, Sturdy, Grows, GrowsKids};
 ghost use Rattle.sound.specs.Filled.{Tells, Clear, Readable, Filled, AddsUp};
 ghost use Rattle.sound.specs.Check.{Trees, Chains, Checks};
 
@@ -116,9 +116,25 @@ fn sturdy(pool: &[u64], p: usize, k: usize, least: usize) -> bool
     least <= n && n <= MOST
 }
 
+// Whether p nodes can hold the fewest elements of a tree of `levels` inner levels: 2 · 16 ^ levels - 1. No power is taken that could wrap.
+fn within_reach(p: usize, levels: usize) -> bool
+    requires { ⌜ 31 * p + 1 < 2 ^ 64 ⌝ }
+    ensures { λ r. ⌜ Tells r (InReach p levels) ⌝ }
+{
+    let mut left = (MOST * p + 1) / (LEAST_ROOT + 1);
+    let mut rest = levels;
+    while 0 < rest {
+        left = left / (LEAST + 1);
+        rest -= 1;
+    }
+    0 < left
+}
+
 // Whether the tree at node k, of `levels` inner levels, is well grown, and its nodes were not met. Marks them.
+// The levels are few, whatever the words, and so is the stack that this takes.
 fn grown(pool: &[u64], p: usize, marks: &mut [u64], k: usize, levels: usize, least: usize) -> bool
     requires { ⌜ Room (now pool) p (now marks) ⌝ }
+    requires { ⌜ InReach p levels ⌝ }
     ensures { λ r. ⌜ Grows r (now (pool .entry)) p levels least k (now (marks .entry)) (now (marks .exit)) ⌝ }
 {
     if !sturdy(pool, p, k, least) {
@@ -138,6 +154,7 @@ fn grown(pool: &[u64], p: usize, marks: &mut [u64], k: usize, levels: usize, lea
 fn grown_kids(pool: &[u64], p: usize, marks: &mut [u64], k: usize, levels: usize) -> bool
     requires { ⌜ Room (now pool) p (now marks) ⌝ }
     requires { ⌜ (1 ≤ k) × (k ≤ p) × (countAt (now pool) k ≤ 31) ⌝ }
+    requires { ⌜ InReach p levels ⌝ }
     ensures { λ r. ⌜ GrowsKids r (now (pool .entry)) p levels k (now (marks .entry)) (now (marks .exit)) ⌝ }
 {
     let n = count_at(pool, k);
@@ -156,6 +173,9 @@ pub fn shape(pool: &[u64], p: usize, marks: &mut [u64], k: usize, levels: usize)
     requires { ⌜ Room (now pool) p (now marks) ⌝ }
     ensures { λ r. ⌜ Shapes r (now (pool .entry)) p levels k (now (marks .entry)) (now (marks .exit)) ⌝ }
 {
+    if !within_reach(p, levels) {
+        return false;
+    }
     grown(pool, p, marks, k, levels, LEAST_ROOT)
 }
 

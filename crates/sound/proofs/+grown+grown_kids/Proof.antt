@@ -8,7 +8,7 @@ use borrow.Fn.Kinds.{In}
 use borrow.Fn.PlainCycle.{Measures, is, falls, and}
 use lib.Dec.{eqb}
 use Rattle.pool.specs.Parts.{countAt}
-use Rattle.sound.proofs.Growth.{inside}
+use Rattle.sound.proofs.Growth.{inside, reach-below}
 use Rattle.sound.proofs.Walk.{not-sturdy, met-twice, leaf-found, inner-found}
 use Rattle.sound.proofs.Walk.{Walked, walked-none, walked-more, walked-bad, walked-all}
 use Rattle.sound.proofs.grown.Reads as grown
@@ -84,7 +84,7 @@ module _ (t : ℕ) where
   kid-at-requires c κs =
       let d = c .before .before .before .before in
       let S = d .before .before .before .sturdy .ensures .good (not-false _ (d .before .before .if1 .left)) in
-      (inside _ _ (d .before .before .before .before .before .before .pre .1 .exact) S, omega arith)
+      (inside _ _ (d .before .before .before .before .before .before .pre .1 .0 .exact) S, omega arith)
 
   returns-3 : grown-lts.Need-returns-3 grown-claims grown-at grown.Post
   returns-3 c =
@@ -97,7 +97,8 @@ module _ (t : ℕ) where
   grown-kids-requires c κs =
       let d = c .before .before .before .before .before in
       let S = d .before .before .before .sturdy .ensures .good (not-false _ (d .before .before .if1 .left)) in
-      omega (arith, d .claim .ensures .long)
+      let s = d .before .before .before .before .before .before in
+      omega (arith, d .claim .ensures .long, reach-below _ (s .args .levels) (s .pre .1 .1))
 
   returns-4 : grown-lts.Need-returns-4 grown-claims grown-at grown.Post
   returns-4 c =
