@@ -2,3 +2,5 @@
 pub mod Turns
 pub mod Going
 pub mod Singly
+pub mod Room
+pub mod One

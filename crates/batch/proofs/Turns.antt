@@ -4,7 +4,7 @@ use mathlib.Core.List.{List}
 use mathlib.Core.Bool.{Bool, true, false, cond}
 use Prim.Native.Nat.{ℕ, zero, suc, _+_, _-_, _≤_, _<_}
 use native.Mathlib.Omega.{arith}
-use borrow.Author.Tests.{ltb-false, lt-ltb, le-ltb}
+use borrow.Author.Tests.{ltb-true, ltb-false, lt-ltb, le-ltb}
 use lib.Dec.{ltb}
 use lib.ListN.{length}
 use Rattle.records.specs.declared.Command.{Command}
@@ -39,15 +39,35 @@ module _ (s : List ℕ) (at room : ℕ) where
   unfolding turnAt
   runnable = go (nextAt s at) refl (next-fits s at)
     where
-      fits : (c : Command) (n : ℕ) → nextAt s at ≡ Whole c n → (1 ≤ n) × (at + n ≤ length s) → (b : Bool) → ltb room longestRecord ≡ b
+      fits : (c : Command) (n : ℕ) → nextAt s at ≡ Whole c n → Fits s at (Whole c n) → (b : Bool) → ltb room longestRecord ≡ b
           → Runnable (cond b (Stop 7) (Run c n))
       fits c n e f true q = tt
       fits c n e f false q = (f .0, f .1, ltb-false room longestRecord q, e)
+
       go : (x : Next) → nextAt s at ≡ x → Fits s at x → Runnable (turnOf x room)
       go End e f = tt
       go UnknownKind e f = tt
       go CutShort e f = tt
       go (Whole c n) e f = fits c n e f (ltb room longestRecord) refl
+
+  -- with room for a record wherever the input goes on, it does not stop with 7
+  abbrev pub Open : Turn → Type 0
+  Open (Stop k) = k ≡ 7 → ⊥
+  Open (Run c n) = Unit {0}
+
+  pub stays-open : (at < length s → longestRecord ≤ room) → Open (turnAt s at room)
+  unfolding turnAt
+  stays-open h = go (nextAt s at) (next-fits s at)
+    where
+      fits : (c : Command) (n : ℕ) → Fits s at (Whole c n) → (b : Bool) → ltb room longestRecord ≡ b → Open (cond b (Stop 7) (Run c n))
+      fits c n f true q = λ e. absurd (omega (arith, ltb-true room longestRecord q, h (omega (arith, f .0, f .1))))
+      fits c n f false q = tt
+
+      go : (x : Next) → Fits s at x → Open (turnOf x room)
+      go End f = λ e. absurd (omega arith)
+      go UnknownKind f = λ e. absurd (omega arith)
+      go CutShort f = λ e. absurd (omega arith)
+      go (Whole c n) f = fits c n f (ltb room longestRecord) refl
 
 -- ---- the rest of a batch
 

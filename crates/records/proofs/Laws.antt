@@ -4,12 +4,12 @@ use mathlib.Core.List.{List, [], _∷_, _++_}
 use mathlib.Core.Bool.{Bool, true, false, cond}
 use Prim.Native.Nat.{ℕ, zero, suc, _+_, _-_, _*_, _/_, _^_, _≤_, _<_}
 use native.Mathlib.Omega.{arith}
-use lib.Dec.{leb}
+use lib.Dec.{eqb, leb}
 use lib.ListN.{length, getD}
 use lib.Pow.{pow-add, pow-mono}
 use Rattle.words.specs.Words.{run}
 use Rattle.words.proofs.Laws.{run-cons}
-use Rattle.records.specs.Numbers.{bytesOf, numberOf}
+use Rattle.records.specs.Numbers.{bytesOf, numberOf, numberAt}
 use borrow.Author.Tests.{leb-true, le-leb, lt-leb}
 use Rattle.records.specs.Commands.{bodyOf, commandAt, Stands, wholeAt, nextAt}
 use Rattle.records.specs.declared.Body.{Body}
@@ -17,6 +17,8 @@ use Rattle.records.specs.declared.Body.the-variants.{Bytes, Unknown}
 use Rattle.records.specs.Answers.{recordBytes, longestRecord}
 use Rattle.records.specs.declared.Record.{Record}
 use Rattle.records.specs.declared.Record.the-variants.{Done, Element, Length, Refusal, Got}
+use Rattle.records.specs.declared.Command.{Command}
+use Rattle.records.specs.declared.Command.the-variants.{Insert, Remove, Push, Get, Replace, Len}
 use Rattle.records.specs.declared.Next.{Next}
 use Rattle.records.specs.declared.Next.the-variants.{End, UnknownKind, CutShort, Whole}
 
@@ -79,28 +81,69 @@ module _ (s : List ℕ) (at : ℕ) (h : at < length s) where
   unfolding nextAt
   next-whole {n} e l = rw (lt-leb (length s) at h, e, le-leb (at + 1 + n) (length s) l)
 
--- a whole command has a byte or more, and ends in the input
+-- the longest record answers a get, which has a body
+abbrev pub Bodied : Command → ℕ → Type 0
+Bodied (Get i) n = 1 ≤ n
+Bodied (Insert i x) n = Unit {0}
+Bodied (Remove i) n = Unit {0}
+Bodied (Push x) n = Unit {0}
+Bodied (Replace i x) n = Unit {0}
+Bodied Len n = Unit {0}
+
+-- a whole command has a kind and a body, and ends in the input
 abbrev pub Fits : List ℕ → ℕ → Next → Type 0
 Fits s at End = Unit {0}
 Fits s at UnknownKind = Unit {0}
 Fits s at CutShort = Unit {0}
-Fits s at (Whole c n) = (1 ≤ n) × (at + n ≤ length s)
+Fits s at (Whole c n) = (1 ≤ n) × (at + n ≤ length s) × Bodied c (n - 1)
+
+abbrev Matched : Command → Body → Type 0
+Matched c Unknown = Unit {0}
+Matched c (Bytes n) = Bodied c n
+
+-- the two tables, row by row
+matched : (s : List ℕ) (at : ℕ) → Matched (commandAt s at) (bodyOf (getD s at 0))
+unfolding bodyOf commandAt
+matched s at = go (eqb k 1) (eqb k 2) (eqb k 3) (eqb k 4) (eqb k 5) (eqb k 6)
+  where
+    k : ℕ
+    k = getD s at 0
+
+    i : ℕ
+    i = numberAt s (at + 1) 4
+
+    x : ℕ
+    x = numberAt s (at + 5) 8
+
+    go : (b c d e f g : Bool)
+        → Matched (cond b (Insert i x) (cond c (Remove i) (cond d (Push (numberAt s (at + 1) 8)) (cond e (Get i) (cond f (Replace i x) Len)))))
+        (cond b (Bytes 12) (cond c (Bytes 4) (cond d (Bytes 8) (cond e (Bytes 4) (cond f (Bytes 12) (cond g (Bytes 0) Unknown))))))
+    go true c d e f g = tt
+    go false true d e f g = tt
+    go false false true e f g = tt
+    go false false false true f g = omega arith
+    go false false false false true g = tt
+    go false false false false false true = tt
+    go false false false false false false = tt
 
 pub next-fits : (s : List ℕ) (at : ℕ) → Fits s at (nextAt s at)
 unfolding nextAt
 next-fits s at = ended (leb (length s) at)
   where
-    whole : (n : ℕ) (b : Bool) → leb (at + 1 + n) (length s) ≡ b → Fits s at (cond b (Whole (commandAt s at) (n + 1)) CutShort)
-    whole n true e = (omega arith, omega (arith, leb-true (at + 1 + n) (length s) e))
-    whole n false e = tt
+    whole : (n : ℕ) → Bodied (commandAt s at) n → (b : Bool) → leb (at + 1 + n) (length s) ≡ b
+        → Fits s at (cond b (Whole (commandAt s at) (n + 1)) CutShort)
+    whole n m true e =
+        let d : n + 1 - 1 ≡ n = omega arith in
+        (omega arith, omega (arith, leb-true (at + 1 + n) (length s) e), rw d m)
+    whole n m false e = tt
 
-    known : (b : Body) → Fits s at (wholeAt s at b)
-    known Unknown = tt
-    known (Bytes n) = whole n (leb (at + 1 + n) (length s)) refl
+    known : (b : Body) → Matched (commandAt s at) b → Fits s at (wholeAt s at b)
+    known Unknown m = tt
+    known (Bytes n) m = whole n m (leb (at + 1 + n) (length s)) refl
 
     ended : (b : Bool) → Fits s at (cond b End (wholeAt s at (bodyOf (getD s at 0))))
     ended true = tt
-    ended false = known (bodyOf (getD s at 0))
+    ended false = known (bodyOf (getD s at 0)) (matched s at)
 
 -- ---- answers
 

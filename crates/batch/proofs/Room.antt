@@ -1,0 +1,73 @@
+-- How much a batch writes: at most 9 bytes for a byte read, so that an output of 9 bytes for each and 4 more never stops it with 7.
+use mathlib.Core.Path.{_≡_, refl, sym, subst, _∙_}
+use mathlib.Core.List.{List, _++_}
+use mathlib.Core.Bool.{Bool, true, false, cond}
+use Prim.Native.Nat.{ℕ, zero, suc, _+_, _-_, _*_, _≤_}
+use native.Mathlib.Omega.{arith}
+use lib.Dec.{eqb}
+use lib.ListN.{length, length-append}
+use Rattle.model.specs.declared.Answer.{Answer}
+use Rattle.model.specs.Tree.{Bag}
+use Rattle.records.specs.declared.Command.{Command}
+use Rattle.records.specs.declared.Command.the-variants.{Insert, Remove, Push, Get, Replace, Len}
+use Rattle.records.specs.declared.Record.{Record}
+use Rattle.records.specs.declared.Record.the-variants.{Refusal}
+use Rattle.records.specs.Answers.{recordBytes}
+use Rattle.records.proofs.Laws.{Bodied, Fits, next-fits}
+use Rattle.batch.specs.declared.Turn.{Turn}
+use Rattle.batch.specs.declared.Turn.the-variants.{Stop, Run}
+use Rattle.batch.specs.Steps.{turnAt, Progress, Ended, start, advanced, batchFrom, batchOf}
+use Rattle.batch.specs.Batch.{perform, given, replyTo, onBag}
+use Rattle.batch.proofs.Turns.{Runnable, runnable, Open, stays-open, batch-stops, batch-goes}
+
+given-small : (c : Command) (a : Answer) (n : ℕ) → 1 ≤ n → Bodied c (n - 1) → length (recordBytes (given c a)) ≤ 9 * n
+unfolding recordBytes
+given-small (Insert i x) a n l m = omega arith
+given-small (Remove i) a n l m = omega arith
+given-small (Push x) a n l m = omega arith
+given-small (Get i) a n l m = omega arith
+given-small (Replace i x) a n l m = omega arith
+given-small Len a n l m = omega arith
+
+reply-small : (c : Command) (a : Answer) (n : ℕ) → 1 ≤ n → Bodied c (n - 1) → length (recordBytes (replyTo c a)) ≤ 9 * n
+unfolding replyTo recordBytes
+reply-small c a n l m = go (eqb (a .number) 0)
+  where
+    go : (b : Bool) → length (recordBytes (cond b (given c a) (Refusal (a .number)))) ≤ 9 * n
+    go true = given-small c a n l m
+    go false = omega arith
+
+-- a batch that has come so far has written so little
+abbrev Light : List ℕ → Progress Bag → Type 0
+Light input p = (length (p .answers) ≤ 9 * p .read) × (p .read ≤ length input)
+
+module _ (input : List ℕ) (size : ℕ) (wide : 9 * length input + 4 ≤ size) where
+  abbrev pub Never7 : Ended Bag → Type 0
+  Never7 e = (e .number ≡ 7 → ⊥) × Light input (e .progress)
+
+  one-more : (left : ℕ) → ((p : Progress Bag) → length input ≤ p .read + left → Light input p → Never7 (batchFrom onBag input size left p))
+      → (p : Progress Bag) → length input ≤ p .read + suc left → Light input p → Never7 (batchFrom onBag input size (suc left) p)
+  unfolding onBag
+  one-more left ih p enough l = go (turnAt input (p .read) room) refl (runnable input (p .read) room) (stays-open input (p .read) room (λ h. omega arith))
+    where
+      room : ℕ
+      room = size - length (p .answers)
+
+      go : (t : Turn) → turnAt input (p .read) room ≡ t → Runnable input (p .read) room t → Open input (p .read) room t
+          → Never7 (batchFrom onBag input size (suc left) p)
+      go (Stop n) e f o = rw (batch-stops onBag input size p (suc left) enough n e) (o, l)
+      go (Run c n) e f o =
+          let d : suc left - 1 ≡ left = omega arith in
+          let a = onBag c (p .state) .answer in
+          let small = reply-small c (perform c (p .state) .answer) n (f .0) (subst (Fits input (p .read)) (f .3) (next-fits input (p .read)) .2) in
+          rw (batch-goes onBag input size p (suc left) enough c n e, d)
+          (ih (advanced onBag c n p) (omega (arith, f .0))
+          (omega (arith, length-append (p .answers) (recordBytes a), small, l .0), f .1))
+
+  never7 : (left : ℕ) (p : Progress Bag) → length input ≤ p .read + left → Light input p → Never7 (batchFrom onBag input size left p)
+  unfolding batchFrom
+  never7 zero p enough l = (λ e. absurd (omega arith), l)
+  never7 (suc left) p enough l = one-more left (never7 left) p enough l
+
+  pub never-7 : (b : Bag) → Never7 (batchOf onBag input size b)
+  never-7 b = never7 (length input) (start b) (omega arith) (omega arith, omega arith)
