@@ -6,10 +6,11 @@
  * An insertion into a list of n samples always finds room while n < 15 p.
  *
  * Every call answers, for any words, any length and any index. All but bag_format check the whole pool first, so that their time grows
- * with it (docs/BENCH.md). A call that answers another number than BAG_DONE has changed no word. A field that a call does not give is 0.
+ * with it (docs/BENCH.md). A call that answers 1 to 4 has changed no word. A field that a call does not give is 0.
  *
  * The caller owes this much:
- * - a pointer is not null and is 8-aligned, also for a length of 0, and that many words can be read (and written, if not const);
+ * - a pointer is not null, and one to words is 8-aligned, also for a length of 0, and so much can be read (and written, if not const);
+ * - what a call writes does not overlap what else it is lent;
  * - no other thread touches the pool during a call;
  * - stack: 2 KB, whatever the words are (measured: 1.6 KB on the largest pool, by examples/c/bad_input.c).
  * There is no other state, and nothing is kept between calls. The two pools of bag_equal may be the same.
@@ -35,8 +36,15 @@ enum bag_number {
     BAG_UNSOUND = 1, /* the words are not a sound pool: never formatted, or damaged */
     BAG_BEYOND = 2,  /* the list has no such index */
     BAG_NO_ROOM = 3, /* the insertion needs more nodes than are free */
-    BAG_MISFIT = 4   /* the length is not BAG_WORDS(p) for a p up to BAG_MOST_NODES */
+    BAG_MISFIT = 4,  /* the length is not BAG_WORDS(p) for a p up to BAG_MOST_NODES */
+    /* a batch's stops besides 0, at the end of its input */
+    BAG_UNKNOWN = 5, /* a byte that is no command's kind */
+    BAG_CUT = 6,     /* the input ends inside a command */
+    BAG_FULL = 7     /* fewer than BAG_LONGEST_ANSWER bytes of output are left */
 };
+
+/* The longest record that answers a command. */
+#define BAG_LONGEST_ANSWER 13
 
 typedef struct bag_answer {
     uint64_t number;
@@ -54,6 +62,13 @@ typedef struct bag_part {
     uint64_t start;
     uint64_t count;
 } bag_part;
+
+typedef struct bag_ran {
+    uint64_t number;
+    uint64_t commands;
+    uint64_t read;
+    uint64_t written;
+} bag_ran;
 
 /* Makes an empty list of any old words. 0, 4. */
 bag_answer bag_format(uint64_t *pool, size_t words);
@@ -96,6 +111,18 @@ bag_answer bag_equal(const uint64_t *a, size_t a_words, const uint64_t *b, size_
  * an inner node stands by itself. 0 and 0 if refused, and only then; bag_check and bag_len tell why. Any edit may move elements.
  */
 bag_part bag_window(const uint64_t *pool, size_t words, uint64_t index);
+
+/*
+ * Runs commands in bytes; the pool is checked once. A command is a byte of kind and a body, numbers little-endian:
+ *   01 insert: index 4, element 8    02 remove: index 4    03 push: element 8
+ *   04 get: index 4    05 replace: index 4, element 8    06 length
+ * and is answered by a record:
+ *   81 done    82 element 8 (remove, replace)    83 length 8    84 refused: number 1 (2 or 3)    85 got: element 8, compared 4
+ * A refused command does not stop the batch. It stops with 0 at the end of the input, else with 5, 6 or 7, tried in that order at each
+ * command; the commands before that one are done, and nothing of it. commands, read, written: the commands run, and their bytes.
+ * Bytes of the output past those written are as they were. 4, 1: nothing was run, and no byte or word is changed.
+ */
+bag_ran bag_batch(uint64_t *pool, size_t words, const uint8_t *input, size_t input_bytes, uint8_t *output, size_t output_bytes);
 
 #ifdef __cplusplus
 }

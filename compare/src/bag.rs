@@ -28,6 +28,15 @@ pub struct Part {
     pub count: usize,
 }
 
+#[repr(C)]
+#[derive(Clone, Copy, Debug, PartialEq, Eq)]
+pub struct Ran {
+    pub number: u64,
+    pub commands: u64,
+    pub read: u64,
+    pub written: u64,
+}
+
 #[link(name = "bag", kind = "static")]
 extern "C" {
     fn bag_format(pool: *mut u64, words: usize) -> Answer;
@@ -42,6 +51,7 @@ extern "C" {
     fn bag_skip(pool: *const u64, words: usize, position: u64, m: u64) -> Walked;
     fn bag_equal(a: *const u64, a_words: usize, b: *const u64, b_words: usize) -> Answer;
     fn bag_window(pool: *const u64, words: usize, index: u64) -> Part;
+    fn bag_batch(pool: *mut u64, words: usize, input: *const u8, input_bytes: usize, output: *mut u8, output_bytes: usize) -> Ran;
 }
 
 // SAFETY, of every call below: a slice's pointer is aligned, is not null even when it is empty, and is good for its words;
@@ -95,4 +105,8 @@ pub fn equal(a: &[u64], b: &[u64]) -> Answer {
 pub fn window(pool: &[u64], index: u64) -> &[u64] {
     let part = unsafe { bag_window(pool.as_ptr(), pool.len(), index) };
     &pool[part.start..part.start + part.count]
+}
+
+pub fn batch(pool: &mut [u64], input: &[u8], output: &mut [u8]) -> Ran {
+    unsafe { bag_batch(pool.as_mut_ptr(), pool.len(), input.as_ptr(), input.len(), output.as_mut_ptr(), output.len()) }
 }

@@ -2,6 +2,8 @@
 ghost use Rattle.model.specs.Calls.{refused, checkCall, lenCall, getCall, skipCall, stays, insertCall, pushCall, replaceCall, removeCall};
 ghost use Rattle.calls.specs.Part.{nowhere, partCall};
 ghost use Rattle.door.specs.Promise.{Edits, Tells, Compares, Formats};
+ghost use Rattle.batch.specs.Batch.{Batches};
+use batch::Ran;
 use calls::Span;
 use model::Answer;
 use model::Walked;
@@ -89,4 +91,12 @@ pub extern "C" fn bag_window(pool: &[u64], index: u64) -> Span
     ensures { λ r. ⌜ Tells (λ _. nowhere) (partCall index) (now (pool .entry)) r ⌝ }
 {
     door::part(pool, index)
+}
+
+// Commands in bytes, one after the other. The two byte slices pass as the pool does, with their lengths in bytes.
+#[no_mangle]
+pub extern "C" fn bag_batch(pool: &mut [u64], input: &[u8], output: &mut [u8]) -> Ran
+    ensures { λ r. ⌜ Batches (now (pool .entry)) (now (input .entry)) (now (output .entry)) r (now (pool .exit)) (now (output .exit)) ⌝ }
+{
+    batch::batch(pool, input, output)
 }
