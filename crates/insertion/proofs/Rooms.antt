@@ -5,13 +5,13 @@ use mathlib.Core.List.{List, [], _∷_}
 use Prim.Native.Nat.{ℕ, zero, suc, _+_, _≤_, _<_}
 use native.Mathlib.Omega.{arith}
 use borrow.Author.Tests.{lt-leb}
-use lib.ListN.{length, getD, take, drop}
-use lib.Seq.{set-split, map-set-same}
+use lib.ListN.{length, getD, drop}
+use lib.Seq.{map-set-same}
 use Rattle.lists.specs.Lists.{sum, count}
 use Rattle.lists.proofs.All.{nil, cons}
 use Rattle.lists.proofs.Counts.{count-append}
 use Rattle.lists.proofs.Edits.{length-insertAt}
-use Rattle.lists.proofs.Sums.{total-append, total-at}
+use Rattle.lists.proofs.Sums.{total-set}
 use Rattle.model.specs.Tree.{Tree, kid, none, size, flat, find, before, withKid, Root, bare, rooted, Bag}
 use Rattle.model.specs.Fit.{Fit}
 use Rattle.model.specs.Insert.{isFull, splitChild, Grown, insertNonFull, neededBelow, aboveRoot, grownBag, bagInsert}
@@ -44,10 +44,7 @@ insert-size {h} {t} {i} {x} {r = r} F l I =
 module _ (h : ℕ) (t : Tree (suc h)) (c : ℕ) (k : Tree h) (l : c < length (t .kids)) where
   with-size : size h k ≡ size h (kid h t c) + 1 → size (suc h) (withKid h t c k) ≡ size (suc h) t + 1
   unfolding size sum
-  with-size e =
-      let K : List (Tree h) = t .kids in
-      rw (set-split K c k l)
-      (omega (arith, total-append (size h) (take c K) (k ∷ drop (suc c) K), total-at (size h) K c (none h) l))
+  with-size e = omega (arith, total-set (size h) (t .kids) c (none h) k l)
 
   -- the words of the node then
   pub with-block : size h k ≡ size h (kid h t c) + 1 → k .id ≡ kid h t c .id

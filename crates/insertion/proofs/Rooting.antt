@@ -9,7 +9,7 @@ use lib.ListN.{length, getD, drop, length-drop}
 use lib.Seq.{getD-drop, drop-drop}
 use Rattle.lists.specs.Lists.{sum, count}
 use Rattle.lists.proofs.All.{nil, cons, all-at}
-use Rattle.lists.proofs.Counts.{count-append}
+use Rattle.lists.proofs.Counts.{count-append, count-first, one-same}
 use Rattle.model.specs.Tree.{Tree, none, size, ids, Root, bare, rooted, Bag, listOf, rootIds, levelsOf}
 use Rattle.model.specs.Insert.{isFull, splitChild, needed}
 use Rattle.model.proofs.Nodes.{node, held, held-inner, fits, child, flat-length}
@@ -19,11 +19,11 @@ use Rattle.pool.specs.Parts.{Inside, At, RootAt, lengthAt}
 use Rattle.pool.specs.Chain.{Free, Took}
 use Rattle.pool.proofs.Blocks.{length-nodeBlock}
 use Rattle.pool.proofs.Node.{at-length}
-use Rattle.pool.proofs.Frame.{at-untouched, untouched-both}
+use Rattle.pool.proofs.Frame.{at-untouched, chain-untouched, untouched-more, untouched-both, Wrote, wrote, stored-same}
 use Rattle.tree.specs.declared.Known.{Known}
 use Rattle.tree.specs.Node.{Node}
 use Rattle.tree.proofs.Standing.{nodeOf}
-use Rattle.tree.proofs.Edits.{first-free, count-same, stored-same, chain-untouched, untouched-more, Wrote, wrote}
+use Rattle.tree.proofs.Edits.{owns-stands}
 use Rattle.tree.specs.Stands.{Owns, Reshaped, knownOf, BagStands}
 use Rattle.insertion.specs.Ready.{SplitReady, BagReady}
 use Rattle.insertion.specs.Steps.{Upto, RaiseReady, Raised}
@@ -78,17 +78,7 @@ module _ {w : List ℕ} {known : Known} {index : ℕ} {b : Bag} (R : Rooted w kn
   t = R .tree
 
   abbrev pub root-upto : Upto w (known .levels) (known .root) index
-  root-upto = record {
-    stands = record {
-      tree = t;
-      here = R .here;
-      at = R .owns .at;
-      fit = record { some = R .some; fit = R .owns .fit };
-      once = λ k. omega (arith, R .owns .once k);
-      small = R .owns .small;
-    };
-    upto = R .upto;
-  }
+  root-upto = record { stands = owns-stands (R .owns) (R .here) (R .some); upto = R .upto }
 
   abbrev pub root-node : Node w (known .root)
   root-node = nodeOf h t (R .here) (R .owns .at) (R .owns .fit)
@@ -140,7 +130,7 @@ module _ {w : List ℕ} {old : ℕ} (S : RaiseReady w old) where
 
     -- the root, the tree and the other free nodes have no node twice
     pub once : (k : ℕ) → count k (root ∷ []) + held h₁ k t₁ + count k (drop 1 f₁) ≤ 1
-    once k = omega (arith, S .owns .once k, first-free k f₁ (omega (arith, S .two)), count-same k (T .first))
+    once k = omega (arith, S .owns .once k, count-first k f₁ (omega (arith, S .two)), one-same k (T .first))
 
     module _ (w₂ : List ℕ) (e₂ : w₂ ≡ withBlock w₁ root (nodeBlock n [] (old ∷ []))) where
       abbrev o : Tree (suc h₁)
@@ -204,8 +194,8 @@ module _ {w : List ℕ} {old : ℕ} (S : RaiseReady w old) where
             omega (
               arith,
               count-append k (ids h₁ t₁) f₁,
-              first-free k f₁ (omega (arith, S .two)),
-              count-same k (T .first),
+              count-first k f₁ (omega (arith, S .two)),
+              one-same k (T .first),
               count-append k (root ∷ []) (root ∷ []),
               count-append k ((root ∷ []) ++ (root ∷ [])) (ids (suc h₁) o ++ drop 1 f₁),
               count-append k (ids (suc h₁) o) (drop 1 f₁),

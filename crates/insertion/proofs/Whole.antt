@@ -8,7 +8,7 @@ use native.Mathlib.Numerals.{add-one}
 use native.Mathlib.Omega.{arith}
 use lib.ListN.{length, getD, drop, length-drop}
 use Rattle.lists.specs.Lists.{count, insertAt}
-use Rattle.lists.proofs.Counts.{count-append}
+use Rattle.lists.proofs.Counts.{count-append, count-first, one-same}
 use Rattle.model.specs.Tree.{Tree, size, ids, Root, rooted, Bag, rootIds, levelsOf}
 use Rattle.model.specs.Insert.{isFull, Grown, insertNonFull, neededBelow, needed, aboveRoot, grownBag, bagInsert}
 use Rattle.model.proofs.Nodes.{node, most}
@@ -19,10 +19,9 @@ use Rattle.pool.specs.Layout.{withBlock, nodeBlock, kidIds, rootBlock, rootId}
 use Rattle.pool.specs.Parts.{Stored, At, ChainAt}
 use Rattle.pool.specs.Chain.{Untouched, Free, Took}
 use Rattle.pool.proofs.Blocks.{length-nodeBlock}
-use Rattle.pool.proofs.Frame.{untouched-both}
+use Rattle.pool.proofs.Frame.{chain-untouched, untouched-more, untouched-both, Wrote, wrote, stored-same}
 use Rattle.tree.specs.declared.Known.{Known}
 use Rattle.tree.specs.Stands.{Became}
-use Rattle.tree.proofs.Edits.{first-free, count-same, stored-same, chain-untouched, untouched-more, Wrote, wrote}
 use Rattle.insertion.specs.Nodes.{Takes}
 use Rattle.insertion.specs.Ready.{InsertReady, BagReady, Inserts}
 use Rattle.insertion.specs.Steps.{RaiseReady, Raised}
@@ -105,7 +104,7 @@ module _ {w : List ℕ} {known : Known} {index : ℕ} (x n : ℕ) (N : (q : BagR
             let W : Wrote w₁ w₂ root (nodeBlock 1 (x ∷ []) []) =
             wrote (e₂ blank-takes) (T .clean .inside) (length-nodeBlock 1 (x ∷ []) [] (omega arith) (omega arith)) in
             let own : (k : ℕ) → count k f ≡ count k (root ∷ []) + count k (drop 1 f) =
-            (λ k. omega (arith, first-free k f some, count-same k (T .first))) in
+            (λ k. omega (arith, count-first k f some, one-same k (T .first))) in
             accepts
             (grown 0 (record { tree = node (getD f 0 0) (x ∷ []) []; free = drop 1 f })
             (record { root = root; levels = 0; free = known .free - n })

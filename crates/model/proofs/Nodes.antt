@@ -36,9 +36,14 @@ unfolding ids
 same-id zero s t e = ap (λ (is : List ℕ). getD is 0 0) e
 same-id (suc h) s t e = ap (λ (is : List ℕ). getD is 0 0) e
 
+-- whose a node is: the root's, that of a child before child c, of child c, or of one behind it
+pub kids-held : (h k : ℕ) (t : Tree (suc h)) (c : ℕ) → c < length (t .kids) → held (suc h) k t
+    ≡ count k (t .id ∷ []) + (total (held h k) (take c (t .kids)) + (held h k (kid h t c) + total (held h k) (drop (suc c) (t .kids))))
+kids-held h k t c l = omega (arith, held-inner h k t, total-at (held h k) (t .kids) c (none h) l)
+
 -- a node and one of its children
 pub held-kid : (h k : ℕ) (t : Tree (suc h)) (c : ℕ) → c < length (t .kids) → count k (t .id ∷ []) + held h k (kid h t c) ≤ held (suc h) k t
-held-kid h k t c l = omega (arith, held-inner h k t, total-at (held h k) (t .kids) c (none h) l)
+held-kid h k t c l = omega (arith, kids-held h k t c l)
 
 -- two of its children
 pub held-kids : (h k : ℕ) (t : Tree (suc h)) (c d : ℕ) → c < d → d < length (t .kids)

@@ -1,18 +1,17 @@
 -- One level of a removal in the model, as the way down and the way up: no pool is in sight.
-use mathlib.Core.Path.{_≡_, refl, sym, ap, _∙_}
+use mathlib.Core.Path.{_≡_, refl, sym, _∙_}
 use mathlib.Core.Bool.{Bool, true, false, cond, true≢false}
-use mathlib.Core.List.{List, [], _∷_}
+use mathlib.Core.List.{List, _∷_}
 use Prim.Native.Nat.{ℕ, zero, suc, _+_, _-_, _≤_, _<_}
 use native.Mathlib.Omega.{arith}
 use lib.ListN.{length, getD, set}
-use Rattle.model.specs.declared.Place.{Place}
 use Rattle.model.specs.declared.Repair.{Repair}
 use Rattle.model.specs.declared.Repair.the-variants.{Nothing, FromLeft, FromRight, WithLeft, WithRight}
 use Rattle.model.specs.declared.Way.{Way}
 use Rattle.model.specs.declared.Way.the-variants.{Inside, ByLast, ByFirst, ByMerge}
 use Rattle.model.specs.Tree.{Tree, kid, size, find, before}
 use Rattle.model.specs.Fit.{Fit}
-use Rattle.model.specs.Remove.{merge, borrowLeft, borrowRight, repairFor, repaired, Filled, fill, Shrunk, back, swapped, wayFor, removeStep, remove}
+use Rattle.model.specs.Remove.{merge, repairFor, repaired, Filled, fill, Shrunk, back, swapped, wayFor, removeStep, remove}
 use Rattle.model.proofs.Nodes.{size-least, Rearranged, rearranged}
 use Rattle.model.proofs.Find.{place, found, Step, step, separator}
 use Rattle.model.proofs.Fill.{Refilled, merge-refills, fill-law}

@@ -1,8 +1,8 @@
 -- The way of a removal through a node, step by step as the code goes it.
 use mathlib.Core.Path.{_≡_, refl, sym, ap, subst, _∙_}
 use mathlib.Core.Bool.{Bool, true, false}
-use mathlib.Core.List.{List, [], _∷_, map}
-use Prim.Native.Nat.{ℕ, suc, _+_, _-_, _*_, _≤_, _<_}
+use mathlib.Core.List.{List, _∷_}
+use Prim.Native.Nat.{ℕ, suc, _+_, _-_, _<_}
 use native.Mathlib.Omega.{arith}
 use borrow.Author.Tests.{eqb-true, leb-true, leb-false}
 use lib.ListN.{length, take, drop, getD}
@@ -11,7 +11,6 @@ use Rattle.model.specs.declared.Place.{Place}
 use Rattle.model.specs.declared.Way.{Way}
 use Rattle.model.specs.declared.Way.the-variants.{Inside, ByLast, ByFirst, ByMerge}
 use Rattle.model.specs.Tree.{Tree, kid, none, size, findIn, find, before, atSeparator}
-use Rattle.model.specs.Fit.{Fit}
 use Rattle.model.specs.Remove.{isThin, joined, merge, fill, wayFor}
 use Rattle.model.proofs.Nodes.{size-least}
 use Rattle.model.proofs.Find.{Step, step}
@@ -24,11 +23,10 @@ use Rattle.pool.proofs.Node.{at-kid, kid-lengths, inner-at}
 use Rattle.tree.specs.declared.Turn.{Turn}
 use Rattle.tree.specs.Lookup.{Above, Turns}
 use Rattle.tree.specs.Stands.{Owns, Reshaped}
-use Rattle.tree.proofs.Lending.{reshaped-same, owns-stands}
+use Rattle.tree.proofs.Edits.{reshaped-none, owns-stands}
 use Rattle.removal.specs.declared.Descent.{Descent}
 use Rattle.repair.specs.Ready.{PairReady, Few, FillReady, Fills}
-use Rattle.removal.specs.Ready.{RemoveReady}
-use Rattle.removal.specs.Down.{Descended, entered, beside, downBy, descend, DownReady, Went, Enters, into}
+use Rattle.removal.specs.Down.{downBy, descend, DownReady, Went, Enters, into}
 use Rattle.repair.proofs.Pieces.{part}
 use Rattle.repair.proofs.Choice.{ThinIs}
 use Rattle.removal.proofs.Descending.{fill-keeps, found-filled, way, went, place-of, filled}
@@ -194,7 +192,7 @@ module _ {w : List ℕ} {id index : ℕ} (s : DownReady w id index) where
             swaps = refl;
             at = T .child;
             freed = omega arith;
-            reshaped = reshaped-same O;
+            reshaped = reshaped-none O;
           })
 
       module _ (e : ThinIs w id (u .child) true) where
@@ -209,7 +207,7 @@ module _ {w : List ℕ} {id index : ℕ} (s : DownReady w id index) where
               swaps = refl;
               at = T .child;
               freed = omega arith;
-              reshaped = reshaped-same O;
+              reshaped = reshaped-none O;
             })
 
         module _ (g : ThinIs w id (u .child + 1) true) where

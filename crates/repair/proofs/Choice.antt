@@ -1,7 +1,7 @@
 -- What is done for a child that has no element to spare: how it is found out, and what each repair asks and leaves.
 use mathlib.Core.Path.{_≡_, refl, sym, ap, subst, _∙_}
 use mathlib.Core.Bool.{Bool, true, false}
-use mathlib.Core.List.{List, [], _∷_}
+use mathlib.Core.List.{List, _∷_}
 use mathlib.Core.Logic.{_⊎_, inl, inr}
 use Prim.Native.Nat.{ℕ, suc, _+_, _-_, _≤_, _<_}
 use native.Mathlib.Decide.{decLt}
@@ -10,14 +10,14 @@ use borrow.Author.Tests.{lt-ltb, le-ltb}
 use lib.Dec.{leb}
 use lib.ListN.{length}
 use Rattle.model.specs.Tree.{Tree, kid}
-use Rattle.model.specs.Remove.{isThin, merge, borrowLeft, borrowRight, repairFor, repaired, Filled, fill}
+use Rattle.model.specs.Remove.{isThin, merge, borrowLeft, borrowRight, repairFor, repaired, fill}
 use Rattle.model.specs.declared.Repair.{Repair}
 use Rattle.model.specs.declared.Repair.the-variants.{Nothing, FromLeft, FromRight, WithLeft, WithRight}
 use Rattle.model.proofs.Fill.{Says, says}
 use Rattle.pool.specs.Parts.{Inside, countAt}
 use Rattle.pool.proofs.Node.{at-count}
 use Rattle.tree.specs.Stands.{Reshaped}
-use Rattle.tree.proofs.Lending.{reshaped-same}
+use Rattle.tree.proofs.Edits.{reshaped-none}
 use Rattle.repair.specs.Ready.{PairReady, Few, LeftLends, RightLends, FillReady}
 use Rattle.repair.specs.Ready.{Fills}
 
@@ -177,4 +177,4 @@ module _ {w : List ℕ} {id c : ℕ} (a : Repair) (ea : (q : FillReady w id c) �
 
   pub nothing-done : a ≡ Nothing → Fills w w (s .height) (s .tree) (s .free) (fill (s .height) (s .tree) c (s .free)) 0
   unfolding repaired
-  nothing-done e = by w Nothing e 0 (record { count = omega arith; reshaped = reshaped-same (s .owns) })
+  nothing-done e = by w Nothing e 0 (record { count = omega arith; reshaped = reshaped-none (s .owns) })

@@ -1,5 +1,5 @@
 -- A node's child slots and what is below them, leaf or not; and the two ends of a node, from which a piece goes to a neighbour.
-use mathlib.Core.Path.{_≡_, refl, sym, ap, ap₂, subst, _∙_}
+use mathlib.Core.Path.{_≡_, refl, sym, ap, subst, _∙_}
 use mathlib.Core.List.{List, [], _∷_, _++_, map, map-append, append-nil}
 use mathlib.Core.Logic.{_≢_}
 use Prim.Native.Nat.{ℕ, zero, suc, _+_, _-_, _≤_, _<_}
@@ -8,9 +8,9 @@ use native.Mathlib.Omega.{arith}
 use lib.ListN.{length, take, drop, getD, replicate, length-append, length-drop, length-map, length-replicate, getD-replicate, List·getD-map}
 use lib.ListN.{take-append-drop, drop-of-length-le, replicate-append-replicate}
 use lib.Seq.{take-length, drop-length, drop-cons}
-use Rattle.lists.specs.Lists.{sum, insertAt, removeAt, butLast, last}
+use Rattle.lists.specs.Lists.{sum, insertAt, removeAt, butLast}
 use Rattle.lists.proofs.Sums.{total, total-append}
-use Rattle.lists.proofs.Edits.{length-insertAt, length-removeAt}
+use Rattle.lists.proofs.Edits.{length-insertAt, length-removeAt, map-removeAt}
 use Rattle.model.specs.Tree.{Tree, Below, kid, none, size}
 use Rattle.model.specs.Fit.{Fit}
 use Rattle.model.specs.Remove.{joined, gaveLast, tookFront, gaveFirst, tookBack}
@@ -18,7 +18,6 @@ use Rattle.model.proofs.Nodes.{most}
 use Rattle.pool.specs.Layout.{slots, nodeBlock, idOf, rootBlock}
 use Rattle.pool.specs.Parts.{Inside, Stored, At}
 use Rattle.pool.proofs.Node.{at-length}
-use Rattle.tree.specs.Node.{Node}
 use Rattle.repair.specs.Pieces.{Seated, lengthOr}
 use Rattle.repair.proofs.Pieces.{some-node}
 
@@ -43,13 +42,6 @@ module _ {A : Type 0} where
   pub first-one : (xs : List A) (d : A) → 0 < length xs → take 1 xs ≡ getD xs 0 d ∷ []
   first-one [] d l = absurd (omega arith)
   first-one (x ∷ xs) d l = refl
-
-pub map-removeAt : {A B : Type 0} (f : A → B) (xs : List A) (i : ℕ) → map f (removeAt xs i) ≡ removeAt (map f xs) i
-unfolding removeAt
-map-removeAt f [] zero = refl
-map-removeAt f [] (suc i) = refl
-map-removeAt f (x ∷ xs) zero = refl
-map-removeAt {B = B} f (x ∷ xs) (suc i) = ap (λ (ys : List B). f x ∷ ys) (map-removeAt f xs i)
 
 -- zeros without one, and with one more
 pub zeros-out : (n j : ℕ) → j ≤ n → removeAt (replicate {A = ℕ} (suc n) 0) j ≡ replicate n 0

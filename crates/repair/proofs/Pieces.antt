@@ -2,23 +2,22 @@
 use mathlib.Core.Path.{_≡_, refl, sym, ap, _∙_}
 use mathlib.Core.List.{List, [], _∷_, _++_}
 use mathlib.Core.Logic.{_≢_, _⊎_, inl, inr}
-use Prim.Native.Nat.{ℕ, zero, suc, _+_, _-_, _*_, _^_, _≤_, _<_}
-use native.Mathlib.Nat.{add-assoc}
+use Prim.Native.Nat.{ℕ, zero, suc, _+_, _-_, _^_, _≤_, _<_}
 use native.Mathlib.Decide.{decLt}
 use native.Mathlib.Omega.{arith}
 use borrow.Rule.Slice.PartMut.{putMid}
-use lib.ListN.{length, getD, set, take, drop, length-append, length-set}
-use lib.Seq.{sets, append-snoc, length-sets}
+use lib.ListN.{length, getD, set, take, drop, length-append}
+use lib.Seq.{sets, append-snoc}
 use Rattle.lists.specs.Lists.{insertAt, removeAt}
 use Rattle.lists.proofs.Edits.{length-insertAt, length-removeAt}
 use Rattle.words.specs.Words.{run}
-use Rattle.pool.specs.Layout.{nodeWords, start, block, withBlock, slots, nodeBlock}
+use Rattle.pool.specs.Layout.{nodeWords, start, withBlock, slots, nodeBlock}
 use Rattle.pool.specs.Parts.{Inside, countAt, lengthAt}
 use Rattle.pool.proofs.Block.{length-block, block-other}
 use Rattle.pool.proofs.Blocks.{length-slots}
 use Rattle.pool.proofs.Store.{run-block, sets-in, set-in, withBlock-same, block-in, block-put}
 use Rattle.pool.proofs.Slots.{parts}
-use Rattle.pool.proofs.Node.{node-elem, node-kid}
+use Rattle.pool.proofs.Node.{node-kid}
 use Rattle.pool.proofs.Areas.{Area, elem-area, kid-area, length-parts, area-word, area-read, area-append, area-open, area-close}
 use Rattle.tree.specs.Node.{Node}
 use Rattle.repair.specs.Pieces.{Seated, Takes, TookOut, Puts, putIn, Joins, lengthOr, HasSlot}

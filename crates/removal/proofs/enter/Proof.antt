@@ -1,5 +1,4 @@
 -- `enter` meets its contract: the finder's place is the model's.
-use native.Mathlib.Omega.{arith}
 use borrow.Author.Needs.{needs}
 use Rattle.removal.proofs.Going.{enter-inner, enter-child, enters}
 use Rattle.removal.proofs.enter.Statement.{statement}

@@ -1,5 +1,4 @@
 -- `merge` meets its contract: the piece taken out of the node goes with the right node's words behind the left one's.
-use native.Mathlib.Omega.{arith}
 use borrow.Author.Needs.{needs}
 use Rattle.repair.proofs.Pairing.{left-kid}
 use Rattle.repair.proofs.Moves.{merge-take, merge-append, merge-give, merged}
