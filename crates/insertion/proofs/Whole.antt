@@ -13,7 +13,7 @@ use Rattle.model.specs.Tree.{Tree, size, ids, Root, rooted, Bag, rootIds, level
 use Rattle.model.specs.Insert.{isFull, Grown, insertNonFull, neededBelow, needed, aboveRoot, grownBag, bagInsert}
 use Rattle.model.proofs.Nodes.{node, most}
 use Rattle.model.proofs.Insert.{full, not-full}
-use Rattle.model.proofs.Bags.{bag-insert}
+use Rattle.model.proofs.Bags.{bag-insert, Lifted, lift-law, bag-bare, bag-room, bag-full}
 use Rattle.model.proofs.Bounds.{levels-few}
 use Rattle.pool.specs.Layout.{withBlock, nodeBlock, kidIds, rootBlock, rootId}
 use Rattle.pool.specs.Parts.{Stored, At, ChainAt}
@@ -22,13 +22,14 @@ use Rattle.pool.proofs.Blocks.{length-nodeBlock}
 use Rattle.pool.proofs.Frame.{chain-untouched, untouched-more, untouched-both, Wrote, wrote, stored-same}
 use Rattle.tree.specs.declared.Known.{Known}
 use Rattle.tree.specs.Stands.{Became}
+use Rattle.tree.proofs.Rooting.{Rooted, is-bare}
 use Rattle.insertion.specs.Nodes.{Takes}
 use Rattle.insertion.specs.Ready.{InsertReady, BagReady, Inserts}
 use Rattle.insertion.specs.Steps.{RaiseReady, Raised}
 use Rattle.insertion.proofs.Needing.{Told}
 use Rattle.insertion.proofs.Inserting.{InsertsBelow}
-use Rattle.insertion.proofs.Rooms.{insert-id, lift-law, Lifted, bag-bare, bag-room, bag-full}
-use Rattle.insertion.proofs.Rooting.{Rooted, free-count, is-bare, is-rooted, root-node, needs-one}
+use Rattle.insertion.proofs.Rooms.{insert-id}
+use Rattle.insertion.proofs.Rooting.{free-count, root-of, index-upto, root-node, needs-one}
 
 -- the bag that b became has this root and these free nodes
 grown : {w w′ : List ℕ} {b d : Bag} (h : ℕ) (g : Grown (Tree h)) (k : Known) → d ≡ grownBag h g → k .root ≡ g .tree .id → k .levels ≡ h
@@ -108,7 +109,7 @@ module _ {w : List ℕ} {known : Known} {index : ℕ} (x n : ℕ) (N : (q : BagR
             accepts
             (grown 0 (record { tree = node (getD f 0 0) (x ∷ []) []; free = drop 1 f })
             (record { root = root; levels = 0; free = known .free - n })
-            (bag-bare (b .bag) index x (is-bare b e)) (T .first) refl left
+            (bag-bare (b .bag) index x (is-bare (b .stands) (b .is) e)) (T .first) refl left
             (record { here = stored-same (sym (T .first)) (leaf-block (getD f 0 0) x) (W .stored); each = tt })
             (chain-untouched (W .untouched) (λ k m. omega (arith, own k, b .stands .once k)) (W .chain) (T .chain))
             (untouched-more (untouched-both (T .untouched) (W .untouched)) (λ k z.
@@ -117,8 +118,8 @@ module _ {w : List ℕ} {known : Known} {index : ℕ} (x n : ℕ) (N : (q : BagR
     -- ---- a list with a root
 
     module _ (ne : known .root ≢ 0) (a : Bool) (A : Told w (known .root) a) where
-      pub R : Rooted w known index (b .bag)
-      R = is-rooted b ne
+      abbrev R : Rooted w known (b .bag)
+      R = root-of b ne
 
       abbrev h : ℕ
       h = known .levels
@@ -131,7 +132,7 @@ module _ {w : List ℕ} {known : Known} {index : ℕ} (x n : ℕ) (N : (q : BagR
 
       pub is-full-root : isFull h t ≡ a
       unfolding isFull
-      is-full-root = sym (A (root-node R))
+      is-full-root = sym (A (root-node b ne))
 
       pub root-enough : needed (rooted h t) index ≤ length g
       root-enough = subst (λ (r : Root). needed r index ≤ length g) (R .is) enough
@@ -155,7 +156,7 @@ module _ {w : List ℕ} {known : Known} {index : ℕ} (x n : ℕ) (N : (q : BagR
           here = R .here;
           some = R .some;
           room = not-full h t (is-full-root ∙ q);
-          upto = R .upto;
+          upto = index-upto b ne;
           enough = below-enough;
         }
 
@@ -200,7 +201,7 @@ module _ {w : List ℕ} {known : Known} {index : ℕ} (x n : ℕ) (N : (q : BagR
           raised = E raise-ready
 
           pub lifted : Lifted h t index g u
-          lifted = lift-law h t (R .owns .fit) root-full index (R .upto) g (omega (arith, two-enough))
+          lifted = lift-law h t (R .owns .fit) root-full index (index-upto b ne) g (omega (arith, two-enough))
 
           abbrev raised-ready : InsertReady w₁ (suc h) root index
           raised-ready = record {
@@ -216,7 +217,7 @@ module _ {w : List ℕ} {known : Known} {index : ℕ} (x n : ℕ) (N : (q : BagR
             here = lifted .id ∙ sym (raised .first);
             some = omega (arith, lifted .elems);
             room = omega (arith, lifted .elems);
-            upto = omega (arith, R .upto, lifted .sized);
+            upto = omega (arith, index-upto b ne, lifted .sized);
             enough = omega (arith, two-enough, lifted .need, length-drop 2 g);
           }
 

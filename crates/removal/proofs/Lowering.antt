@@ -19,7 +19,8 @@ use Rattle.pool.proofs.Store.{block-in}
 use Rattle.pool.proofs.Node.{at-count, at-kid}
 use Rattle.pool.proofs.Frame.{at-untouched, chain-few, untouched-more, untouched-none, untouched-both}
 use Rattle.tree.specs.declared.Known.{Known}
-use Rattle.tree.specs.Stands.{Owns, knownOf, BagStands, Became}
+use Rattle.tree.specs.Stands.{Owns, Became}
+use Rattle.tree.proofs.Rooting.{Rooted, is-rooted}
 use Rattle.removal.specs.declared.Cut.{Cut}
 use Rattle.removal.specs.Ready.{RemoveReady, Removes, LowerReady, BagHas, BagRemoves}
 use Rattle.repair.proofs.Pieces.{part}
@@ -152,43 +153,22 @@ module _ {w : List ℕ} {known : Known} (s : LowerReady w known) where
 
 -- ---- the whole list
 
--- the list has a root, with its tree
-record Rooted (w : List ℕ) (known : Known) (index : ℕ) (d : Bag) : Type 0 where
-  tree : Tree (known .levels)
-  is : d .root ≡ rooted (known .levels) tree
-  here : tree .id ≡ known .root
-  owns : Owns w (known .levels) tree (d .free)
-  some : 0 < length (tree .elems)
-  below : index < size (known .levels) tree
-  frees : known .free ≡ length (d .free)
-
-top : {w : List ℕ} {known : Known} {index : ℕ} (b : BagHas w known index) → Rooted w known index (b .bag)
-unfolding rootId levelsOf listOf rootIds
-top {w} {known} {index} b = go (b .bag .root) (b .bag .free) (b .stands) (b .below) (b .is)
-  where
-    go : (r : Root) (f : List ℕ) → BagStands w (bag r f) → index < length (listOf r) → known ≡ knownOf (bag r f) → Rooted w known index (bag r f)
-    go bare f S l e = absurd (omega arith)
-    go (rooted h t) f S l e =
-        let n = flat-length h t (S .fit .fit) in
-        subst (λ (k : Known). Rooted w k index (bag (rooted h t) f)) (sym e) (record {
-          tree = t;
-          is = refl;
-          here = refl;
-          owns = record { at = S .tree; fit = S .fit .fit; chain = S .chain; once = S .once; small = omega (arith, S .small) };
-          some = S .fit .some;
-          below = omega arith;
-          frees = refl;
-        })
-
 module _ {w : List ℕ} {known : Known} {index : ℕ} (b : BagHas w known index) where
   abbrev l : ℕ
   l = known .levels
 
-  abbrev R : Rooted w known index (b .bag)
-  R = top b
+  R : Rooted w known (b .bag)
+  unfolding listOf
+  R = is-rooted (b .stands) (b .is) (λ q. omega (arith, b .below, ap (λ (r : Root). length (listOf r)) q))
+
+  below : index < size l (R .tree)
+  below = omega (arith, b .below, R .long)
+
+  frees : known .free ≡ length (b .bag .free)
+  frees = ap (λ (k : Known). k .free) (b .is)
 
   pub root-ready : RemoveReady w l (known .root) index
-  root-ready = record { tree = R .tree; free = b .bag .free; owns = R .owns; here = R .here; some = R .some; below = R .below }
+  root-ready = record { tree = R .tree; free = b .bag .free; owns = R .owns; here = R .here; some = R .some; below = below }
 
   module _ (c : Cut) (w₁ : List ℕ) (cut : (s : RemoveReady w l (known .root) index)
       → Removes w w₁ l (s .tree) (s .free) (remove l (s .tree) index (s .free)) c) where
@@ -200,7 +180,7 @@ module _ {w : List ℕ} {known : Known} {index : ℕ} (b : BagHas w known index)
     D = cut root-ready
 
     law : Removed l (R .tree) index (b .bag .free) S
-    law = remove-law l (R .tree) index (b .bag .free) (R .owns .fit) (R .some) (R .below)
+    law = remove-law l (R .tree) index (b .bag .free) (R .owns .fit) (R .some) below
 
     -- the root may have no element left
     pub left : (n : ℕ) → n ≡ known .free + c .freed → LowerReady w₁ (record { root = known .root; levels = l; free = n })
@@ -218,11 +198,11 @@ module _ {w : List ℕ} {known : Known} {index : ℕ} (b : BagHas w known index)
           flat-length l (R .tree) (R .owns .fit),
           flat-length l (S .tree) (law .fit),
           ap length (law .list),
-          length-removeAt (flat l (R .tree)) index (omega (arith, R .below, flat-length l (R .tree) (R .owns .fit))),
+          length-removeAt (flat l (R .tree)) index (omega (arith, below, flat-length l (R .tree) (R .owns .fit))),
         );
       };
-      here = remove-id l (R .tree) index (b .bag .free) (R .owns .fit) (R .some) (R .below) ∙ R .here;
-      frees = omega (arith, D .freed, R .frees);
+      here = remove-id l (R .tree) index (b .bag .free) (R .owns .fit) (R .some) below ∙ R .here;
+      frees = omega (arith, D .freed, frees);
     }
 
     pub frees-few : known .free + c .freed ≤ length w

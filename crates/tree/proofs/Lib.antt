@@ -5,3 +5,4 @@ pub mod Getting
 pub mod Spanning
 pub mod Edits
 pub mod Replacing
+pub mod Rooting
