@@ -24,7 +24,7 @@ use Rattle.tree.specs.Lookup.{Above}
 use Rattle.tree.proofs.Standing.{nodeOf}
 use Rattle.tree.proofs.Getting.{Turned}
 use Rattle.pool.proofs.Frame.{wrote, wrote-same}
-use Rattle.tree.proofs.Edits.{node-untouched, root-reshaped, owns-kid, root-apart, kid-reshaped, reshaped-none, owns-after, reshaped-both, owns-stands}
+use Rattle.tree.proofs.Edits.{node-untouched, root-reshaped, owns-kid, root-apart, kid-reshaped, reshaped-none, owns-after, reshaped-both, owns-above}
 use Rattle.insertion.specs.Nodes.{Takes, Counts}
 use Rattle.insertion.specs.Ready.{SplitReady, InsertReady}
 use Rattle.insertion.specs.Steps.{Grew, RoomReady, roomed}
@@ -40,11 +40,7 @@ module _ {w : List ℕ} {id index h : ℕ} (i : InsertReady w (suc h) id index) 
   f = i .free
 
   abbrev pub ready-above : Above w id index
-  ready-above = record {
-    height = h;
-    stands = owns-stands (i .owns) (i .here) (i .some);
-    upto = i .upto;
-  }
+  ready-above = owns-above (i .owns) (i .here) index (i .upto)
 
   pub way : Step h t index
   way = step h t (i .owns .fit) index (i .upto)
@@ -141,11 +137,7 @@ module _ {w w₁ : List ℕ} {id index h : ℕ} (i : InsertReady w (suc h) id in
   upto₁ = omega (arith, i .upto, laws .same .sized)
 
   abbrev pub room-above : Above w₁ id index
-  room-above = record {
-    height = h;
-    stands = owns-stands owns₁ (laws .id ∙ i .here) (omega (arith, i .some, laws .least));
-    upto = upto₁;
-  }
+  room-above = owns-above owns₁ (laws .id ∙ i .here) index upto₁
 
   pub way₁ : Step h s index
   way₁ = step h s (owns₁ .fit) index upto₁

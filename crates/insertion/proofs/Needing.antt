@@ -10,14 +10,14 @@ use lib.ListN.{length}
 use Rattle.model.specs.Tree.{Tree, size, find, rooted, listOf}
 use Rattle.model.specs.Fit.{FitTree}
 use Rattle.model.specs.Insert.{isFull, neededBelow, needed}
-use Rattle.model.proofs.Nodes.{held-kid, kid-size, flat-length}
+use Rattle.model.proofs.Nodes.{flat-length}
 use Rattle.model.proofs.Find.{Step, into, step}
 use Rattle.model.proofs.Bounds.{room}
 use Rattle.tree.specs.declared.Turn.{Turn}
 use Rattle.tree.specs.Node.{Node}
 use Rattle.tree.specs.Lookup.{Above}
 use Rattle.tree.proofs.Standing.{nodeOf}
-use Rattle.tree.proofs.Getting.{Turned}
+use Rattle.tree.proofs.Getting.{Turned, stands-above, stands-kid}
 use Rattle.insertion.specs.Steps.{Upto}
 
 -- no more than there are elements
@@ -38,7 +38,7 @@ module _ {w : List ℕ} {id index h : ℕ} (s : Upto w (suc h) id index) where
   t = s .stands .tree
 
   abbrev pub upto-above : Above w id index
-  upto-above = record { height = h; stands = s .stands; upto = s .upto }
+  upto-above = stands-above (s .stands) index (s .upto)
 
   pub way : Step h t index
   way = step h t (s .stands .fit .fit) index (s .upto)
@@ -49,14 +49,7 @@ module _ {w : List ℕ} {id index h : ℕ} (s : Upto w (suc h) id index) where
   module _ (r : Turn) (T : Turned w id index r) where
     abbrev pub upto-below : Upto w h (r .id) (r .sub)
     upto-below = record {
-      stands = record {
-        tree = into h t index;
-        here = sym (T upto-above .id);
-        at = s .stands .at .each (find h t index .child) place;
-        fit = record { some = omega (arith, way .below .least); fit = way .below .fit };
-        once = λ k. omega (arith, s .stands .once k, held-kid h k t (find h t index .child) place);
-        small = omega (arith, s .stands .small, kid-size h t (find h t index .child) place);
-      };
+      stands = stands-kid (s .stands) (find h t index .child) place (sym (T upto-above .id));
       upto = rw (T upto-above .sub) (way .sub);
     }
 

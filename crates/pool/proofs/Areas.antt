@@ -1,26 +1,17 @@
 -- A list kept in the slots of a node's words.
-use mathlib.Core.Path.{_≡_, refl, sym, ap, ap₂, _∙_}
+use mathlib.Core.Path.{_≡_, refl, sym, ap, _∙_}
 use mathlib.Core.List.{List, [], _∷_, _++_}
-use mathlib.Core.Bool.{Bool, true, false}
-use mathlib.Core.Logic.{_≢_}
-use Prim.Native.Nat.{ℕ, zero, suc, _+_, _-_, _*_, _≤_, _<_}
-use native.Mathlib.Nat.{add-zero, zero-add}
+use Prim.Native.Nat.{ℕ, _+_, _-_, _≤_, _<_}
+use native.Mathlib.Nat.{zero-add}
 use native.Mathlib.Omega.{arith}
-use borrow.Author.Tests.{ne-eqb}
-use lib.Dec.{eqb}
 use lib.ListN.{length, getD, take, drop, replicate, length-append, length-replicate}
 use lib.Seq.{sets, take-at}
-use Rattle.lists.specs.Lists.{count, insertAt, removeAt}
-use Rattle.lists.proofs.Counts.{count-self}
+use Rattle.lists.specs.Lists.{insertAt, removeAt}
 use Rattle.words.specs.Words.{run}
 use Rattle.words.proofs.Laws.{run-length, run-getD}
-use Rattle.pool.specs.Layout.{chainWord, nodeWords, withBlock, slots}
-use Rattle.pool.specs.Parts.{Inside, Stored, ChainAt}
-use Rattle.pool.specs.Chain.{Untouched}
-use Rattle.pool.proofs.Block.{length-withBlock, head-word, stored-block, block-other}
+use Rattle.pool.specs.Layout.{nodeWords, slots}
 use Rattle.pool.proofs.Blocks.{length-slots}
-use Rattle.pool.proofs.Slots.{parts, parts-elems, parts-kids, elems-run, kids-run, slots-getD, slots-append, slots-open, slots-close}
-use Rattle.pool.proofs.Frame.{Apart, stored-frame, chain-frame, chain-inside}
+use Rattle.pool.proofs.Slots.{parts, parts-elems, parts-kids, elems-run, kids-run, slots-getD, slots-append, slots-open, slots-close, slots-clear, slots-copy}
 
 -- ---- words in which n slots stand from o on
 
@@ -82,3 +73,15 @@ module _ {B : List ℕ → List ℕ} {o n : ℕ} (A : Area B o n) (xs : List ℕ
       omega (arith, length-append ys (0 ∷ []), run-length (slots n xs) (i + 1) q (omega (arith, long))) in
       rw (f, g, A .reads (slots n xs) (i + 1) q long (omega arith))
       (A .stores (slots n xs) i (ys ++ (0 ∷ [])) long (omega arith) ∙ ap B (slots-close n xs i q (omega arith) l))
+
+  module _ (m : ℕ) (r : m ≤ n) where
+    -- those from m on cleared, and copied to an area that is not in use
+    pub area-clear : sets (B (slots n xs)) (o + m) (replicate (n - m) 0) ≡ B (slots n (take m xs))
+    area-clear =
+        A .stores (slots n xs) m (replicate (n - m) 0) long (omega (arith, length-replicate {A = ℕ} (n - m) 0)) ∙ ap B (slots-clear n xs m r l)
+
+    pub area-copy : sets (B (slots n [])) (o + 0) (run (slots n xs) m (n - m)) ≡ B (slots n (drop m xs))
+    area-copy =
+        A .stores (slots n []) 0 (run (slots n xs) m (n - m)) (length-slots n [] (omega arith))
+        (omega (arith, run-length (slots n xs) m (n - m) (omega (arith, long))))
+        ∙ ap B (slots-copy n xs m r l)

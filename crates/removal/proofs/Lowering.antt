@@ -15,7 +15,7 @@ use Rattle.model.proofs.Remove.{Removed, remove-law}
 use Rattle.pool.specs.Layout.{start, block, rootId}
 use Rattle.pool.specs.Parts.{Inside, ChainAt, countAt}
 use Rattle.pool.specs.Chain.{Untouched, Gave}
-use Rattle.pool.proofs.Store.{block-in}
+use Rattle.pool.proofs.Store.{part, block-in}
 use Rattle.pool.proofs.Node.{at-count, at-kid}
 use Rattle.pool.proofs.Frame.{at-untouched, chain-few, untouched-more, untouched-none, untouched-both}
 use Rattle.tree.specs.declared.Known.{Known}
@@ -23,7 +23,6 @@ use Rattle.tree.specs.Stands.{Owns, Became}
 use Rattle.tree.proofs.Rooting.{Rooted, is-rooted}
 use Rattle.removal.specs.declared.Cut.{Cut}
 use Rattle.removal.specs.Ready.{RemoveReady, Removes, LowerReady, BagHas, BagRemoves}
-use Rattle.repair.proofs.Pieces.{part}
 use Rattle.removal.proofs.Descending.{remove-id}
 
 abbrev bag : Root → List ℕ → Bag

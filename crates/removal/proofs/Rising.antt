@@ -16,13 +16,13 @@ use Rattle.model.specs.Remove.{Shrunk, remove}
 use Rattle.model.proofs.Nodes.{flat-length}
 use Rattle.model.proofs.Remove.{Removed, remove-law}
 use Rattle.pool.specs.Layout.{nodeWords, start, withBlock, nodeBlock, idOf, rootBlock}
-use Rattle.pool.proofs.Block.{block-word}
 use Rattle.pool.proofs.Blocks.{length-nodeBlock, length-rootBlock}
 use Rattle.pool.proofs.Store.{set-block, withBlock-again}
 use Rattle.pool.proofs.Frame.{Wrote, wrote, wrote-same}
 use Rattle.tree.specs.Node.{Node}
 use Rattle.tree.specs.Lookup.{HasElement, Swapped}
 use Rattle.tree.specs.Stands.{Owns}
+use Rattle.tree.proofs.Standing.{length-word}
 use Rattle.tree.proofs.Edits.{node-untouched, root-reshaped, owns-kid, root-apart, kid-reshaped, owns-after, reshaped-both}
 use Rattle.removal.specs.declared.Descent.{Descent}
 use Rattle.removal.specs.declared.Cut.{Cut}
@@ -50,12 +50,8 @@ module _ {w : List ℕ} {id : ℕ} {d : Descent} (s : UpReady w id d) (a : ℕ) 
   abbrev m : Node w id
   m = s .node
 
-  word : getD w (a + 1) 0 ≡ m .size
-  unfolding nodeBlock
-  word = rw (ea, ← (block-word w id 1 (omega arith)), m .stored .is) refl
-
   pub up-some : 0 < getD w (a + 1) 0
-  up-some = rw word (s .some)
+  up-some = rw (length-word m a ea) (s .some)
 
   -- one element fewer below
   abbrev fewer : List ℕ
@@ -69,7 +65,7 @@ module _ {w : List ℕ} {id : ℕ} {d : Descent} (s : UpReady w id d) (a : ℕ) 
 
   one : fewer ≡ withBlock w id (less (m .elems))
   unfolding nodeBlock
-  one = rw (word, ea, set-block w id (m .stored .inside) 1 (m .size - 1) (omega arith), m .stored .is) refl
+  one = rw (length-word m a ea, ea, set-block w id (m .stored .inside) 1 (m .size - 1) (omega arith), m .stored .is) refl
 
   pub up-plain : d .swaps ≡ false → (x : ℕ) → Up w fewer id d x m x
   up-plain e x = record {

@@ -17,13 +17,12 @@ use Rattle.model.proofs.Nodes.{held, held-inner, held-id}
 use Rattle.pool.specs.Layout.{chainWord, start, block, idOf, rootBlock}
 use Rattle.pool.specs.Parts.{Stored, At, ChainAt}
 use Rattle.pool.specs.Chain.{Untouched}
-use Rattle.pool.proofs.Store.{block-in}
+use Rattle.pool.proofs.Store.{part, block-in}
 use Rattle.pool.proofs.Node.{at-kid}
 use Rattle.pool.proofs.Frame.{chain-untouched}
 use Rattle.tree.specs.Stands.{Owns, Reshaped}
 use Rattle.tree.proofs.Edits.{KidAt, each-kid, kids-untouched, kids-reshaped}
 use Rattle.repair.specs.Ready.{PairReady, FillReady}
-use Rattle.repair.proofs.Pieces.{part}
 use Rattle.repair.proofs.Ends.{In}
 
 pub child-is : {w : List ℕ} {id c : ℕ} (s : FillReady w id c) (a : ℕ) → a ≡ start id → (r : ℕ) → r ≡ getD (part w a) (33 + c) 0

@@ -9,7 +9,7 @@ use Rattle.lists.specs.Lists.{sum, count}
 use Rattle.lists.proofs.All.{All, nil, cons, all-append, all-take, all-drop, all-at, all-of}
 use Rattle.lists.proofs.Sums.{total}
 use Rattle.lists.proofs.Counts.{count-append, count-self, one-same}
-use Rattle.model.specs.Tree.{Tree, Below, kid, none, ids}
+use Rattle.model.specs.Tree.{Tree, Below, kid, none, size, ids}
 use Rattle.model.proofs.Nodes.{held, held-inner, held-id, kids-held, kid-size, Rearranged}
 use Rattle.pool.specs.Layout.{rootBlock}
 use Rattle.pool.specs.Parts.{Stored, At, KidsAt, ChainAt}
@@ -18,6 +18,7 @@ use Rattle.pool.proofs.Frame.{at-untouched, stored-untouched, chain-untouched, 
 use Rattle.pool.proofs.Frame.{Wrote, stored-same}
 use Rattle.tree.specs.Node.{Node}
 use Rattle.tree.specs.Stands.{Stands, Owns, Reshaped}
+use Rattle.tree.specs.Lookup.{Above}
 
 -- ---- the children of a node, leaf or not
 
@@ -167,6 +168,10 @@ reshaped-both {h = h} {t} {s} {f = f} {g} R n S = record {
 }
 
 -- what a search in the tree asks
+abbrev pub owns-above : {w : List ℕ} {h id : ℕ} {t : Tree (suc h)} {f : List ℕ} → Owns w (suc h) t f → t .id ≡ id → (index : ℕ)
+    → index ≤ size (suc h) t → Above w id index
+owns-above {h = h} {t = t} O e index l = record { height = h; tree = t; here = e; at = O .at; fit = O .fit; upto = l }
+
 abbrev pub owns-stands : {w : List ℕ} {h id : ℕ} {t : Tree h} {f : List ℕ} → Owns w h t f → t .id ≡ id → 0 < length (t .elems) → Stands w h id
 owns-stands {t = t} O e l = record {
   tree = t;

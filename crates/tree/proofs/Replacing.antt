@@ -2,9 +2,7 @@
 use mathlib.Core.Path.{_≡_, refl, sym, ap, subst, _∙_}
 use mathlib.Core.Bool.{true, false}
 use mathlib.Core.List.{List, [], _∷_, map}
-use mathlib.Core.Logic.{_≢_}
-use Prim.Native.Nat.{ℕ, zero, suc, _+_, _≤_, _<_}
-use native.Mathlib.Decide.{decLt, ℕ-discrete}
+use Prim.Native.Nat.{ℕ, zero, suc, _+_, _<_}
 use native.Mathlib.Omega.{arith}
 use lib.ListN.{length, getD, set, length-set}
 use lib.Seq.{set-split, map-set-same}
@@ -15,8 +13,8 @@ use Rattle.model.specs.Tree.{Tree, none, kid, size, ids, flat, find, withKid, w
 use Rattle.lists.proofs.All.{nil, cons}
 use Rattle.model.proofs.Nodes.{same-id, held-id, kids-held, flat-length}
 use Rattle.model.proofs.Get.{get-separator, get-inside, replace-separator, replace-inside, replace-law}
-use Rattle.pool.specs.Layout.{chainWord, nodeWords, withBlock, nodeBlock, idOf, kidIds, rootBlock}
-use Rattle.pool.specs.Parts.{At, KidsAt}
+use Rattle.pool.specs.Layout.{chainWord, withBlock, nodeBlock, idOf, kidIds, rootBlock}
+use Rattle.pool.specs.Parts.{At}
 use Rattle.pool.specs.Chain.{Untouched}
 use Rattle.pool.proofs.Blocks.{length-nodeBlock}
 use Rattle.pool.proofs.Frame.{stored-untouched, untouched-more, wrote, wrote-same}

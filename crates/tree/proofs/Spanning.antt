@@ -2,16 +2,16 @@
 use mathlib.Core.Path.{_≡_, refl, sym, ap, ap₂, subst, _∙_}
 use mathlib.Core.Bool.{true, false}
 use mathlib.Core.List.{List}
-use Prim.Native.Nat.{ℕ, zero, suc, _-_, _≤_, _<_}
+use Prim.Native.Nat.{ℕ, zero, suc, _-_, _≤_}
 use native.Mathlib.Omega.{arith}
 use lib.ListN.{length}
 use Rattle.model.specs.declared.Stretch.{Stretch}
-use Rattle.model.specs.Tree.{Tree, kid, find, atSeparator}
+use Rattle.model.specs.Tree.{Tree, kid, find}
 use Rattle.model.specs.Calls.{stretch}
 use Rattle.model.proofs.Spans.{stretch-separator, stretch-inside}
 use Rattle.tree.specs.declared.Turn.{Turn}
 use Rattle.tree.specs.Node.{Node}
-use Rattle.tree.specs.Lookup.{Above, Turns, Has}
+use Rattle.tree.specs.Lookup.{Has}
 use Rattle.tree.proofs.Standing.{nodeOf}
 use Rattle.tree.proofs.Getting.{Turned, above, leaf-below, below-has}
 

@@ -56,7 +56,7 @@ pub fn swap_element(pool: &mut [u64], k: usize, i: usize, x: u64) -> u64
 // The way that an index goes from node id.
 pub fn way_to(pool: &[u64], id: usize, index: usize) -> Turn
     requires { ⌜ Above (now pool) id index ⌝ }
-    ensures { λ r. ⌜ ((s : Above (now (pool .entry)) id index) → Turns (s .height) (s .stands .tree) index r) ⌝ }
+    ensures { λ r. ⌜ ((s : Above (now (pool .entry)) id index) → Turns (s .height) (s .tree) index r) ⌝ }
 {
     let a = pool::start_of(id);
     let node = &pool[a..a + NODE_WORDS];

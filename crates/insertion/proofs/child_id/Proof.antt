@@ -1,14 +1,15 @@
 -- `child_id` meets its contract: the child's id stands in its slot.
+use mathlib.Core.Path.{_∙_}
 use native.Mathlib.Omega.{arith}
 use borrow.Author.Needs.{needs}
-use Rattle.insertion.proofs.Nodes.{lent-kid}
+use Rattle.tree.proofs.Standing.{lent-kid}
 use Rattle.insertion.proofs.child_id.Statement.{statement}
 use Rattle.insertion.proofs.child_id.Tie as tie
 
 returns : tie.Need-returns
 returns c =
     let c₁ = c .before .before in
-    λ s. lent-kid (s .node) _ (c₁ .start-of .ensures) _ _ (omega (arith, s .below, s .node .few-kids)) (c .kid .ensures)
+    λ s. c .kid .ensures ∙ lent-kid (s .node) _ (c₁ .start-of .ensures) _ (omega (arith, s .below, s .node .few-kids))
 
 pub child-id-spec : {M : Type 1} → statement M
 child-id-spec =

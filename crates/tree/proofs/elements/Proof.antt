@@ -1,11 +1,12 @@
 -- `elements` meets its contract: word 0 of the node's words.
+use mathlib.Core.Path.{_∙_}
 use borrow.Author.Needs.{needs}
-use Rattle.tree.proofs.Standing.{counts}
+use Rattle.tree.proofs.Standing.{lent-count}
 use Rattle.tree.proofs.elements.Statement.{statement}
 use Rattle.tree.proofs.elements.Tie as tie
 
 returns : tie.Need-returns
-returns c m = counts m _ _ (c .before .before .start-of .ensures) (c .count-of .ensures)
+returns c m = c .count-of .ensures ∙ lent-count m _ (c .before .before .start-of .ensures)
 
 pub elements-spec : {M : Type 1} → statement M
 elements-spec =
