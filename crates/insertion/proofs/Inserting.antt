@@ -42,7 +42,7 @@ module _ {w : List ℕ} {id index h : ℕ} (i : InsertReady w (suc h) id index) 
   abbrev pub ready-above : Above w id index
   ready-above = owns-above (i .owns) (i .here) index (i .upto)
 
-  pub way : Step h t index
+  way : Step h t index
   way = step h t (i .owns .fit) index (i .upto)
 
   pub place : find h t index .child < length (t .kids)
@@ -87,11 +87,11 @@ module _ {w : List ℕ} {id index h : ℕ} (i : InsertReady w (suc h) id index) 
 
 -- ---- in a leaf
 
-pub leaf-upto : {w : List ℕ} {id index : ℕ} (i : InsertReady w 0 id index) → index ≤ length (i .tree .elems)
+leaf-upto : {w : List ℕ} {id index : ℕ} (i : InsertReady w 0 id index) → index ≤ length (i .tree .elems)
 unfolding size
 leaf-upto i = i .upto
 
-abbrev pub leaf-takes : {w : List ℕ} {id index : ℕ} → InsertReady w 0 id index → Takes w id index
+abbrev leaf-takes : {w : List ℕ} {id index : ℕ} → InsertReady w 0 id index → Takes w id index
 leaf-takes i = record {
   node = nodeOf 0 (i .tree) (i .here) (i .owns .at) (i .owns .fit);
   place = leaf-upto i;
@@ -104,7 +104,7 @@ leaf-block : (t : Tree 0) (es : List ℕ) → length es ≡ length (t .elems) + 
 unfolding rootBlock size kidIds
 leaf-block t es l = ap (λ (n : ℕ). nodeBlock n es []) (sym l)
 
-pub leaf-inserted : {w w′ : List ℕ} {id index : ℕ} (i : InsertReady w 0 id index) (x : ℕ) → ((s : Takes w id index)
+leaf-inserted : {w w′ : List ℕ} {id index : ℕ} (i : InsertReady w 0 id index) (x : ℕ) → ((s : Takes w id index)
     → w′ ≡ withBlock w id (nodeBlock (s .node .size + 1) (insertAt (s .node .elems) index x) (s .node .kids)))
     → Grew w w′ 0 (i .tree) (i .free) (insertNonFull 0 (i .tree) index x (i .free))
 unfolding insertNonFull
@@ -136,7 +136,7 @@ module _ {w w₁ : List ℕ} {id index h : ℕ} (i : InsertReady w (suc h) id in
   pub upto₁ : index ≤ size (suc h) s
   upto₁ = omega (arith, i .upto, laws .same .sized)
 
-  abbrev pub room-above : Above w₁ id index
+  abbrev room-above : Above w₁ id index
   room-above = owns-above owns₁ (laws .id ∙ i .here) index upto₁
 
   pub way₁ : Step h s index
@@ -166,19 +166,20 @@ module _ {w w₁ : List ℕ} {id index h : ℕ} (i : InsertReady w (suc h) id in
       abbrev y : Grown (Tree h)
       y = insertNonFull h (into h s index) (find h s index .sub) x g
 
-      pub inner : Grew w₁ w₂ h (into h s index) g y
+      inner : Grew w₁ w₂ h (into h s index) g y
       inner = subst (λ (j : ℕ). Grew w₁ w₂ h (into h s index) g (insertNonFull h (into h s index) j x g)) (T room-above .sub) (C next)
 
-      pub inserted : Inserted h (into h s index) (find h s index .sub) x g y
+      inserted : Inserted h (into h s index) (find h s index .sub) x g y
       inserted = insert-law h (into h s index) (next .owns .fit) (laws .room) (find h s index .sub) x g (way₁ .sub) (laws .need)
 
-      abbrev pub counts : Counts w₂ id
+      abbrev counts : Counts w₂ id
       counts = record {
-        node = node-untouched (inner .untouched) (root-apart owns₁ c place₁ id (laws .id ∙ i .here)) (nodeOf (suc h) s (laws .id ∙ i .here) (owns₁ .at) (owns₁ .fit));
+        node = node-untouched (inner .untouched) (root-apart owns₁ c place₁ id (laws .id ∙ i .here))
+            (nodeOf (suc h) s (laws .id ∙ i .here) (owns₁ .at) (owns₁ .fit));
         small = owns₁ .small;
       }
 
-      pub done : (w₃ : List ℕ) → ((q : Counts w₂ id)
+      done : (w₃ : List ℕ) → ((q : Counts w₂ id)
           → w₃ ≡ withBlock w₂ id (nodeBlock (q .node .size + 1) (q .node .elems) (q .node .kids)))
           → Grew w w₃ (suc h) (i .tree) (i .free) (insertNonFull (suc h) (i .tree) index x (i .free))
       done w₃ e =
@@ -196,7 +197,7 @@ abbrev pub InsertsBelow : List ℕ → List ℕ → ℕ → ℕ → ℕ → ℕ 
 InsertsBelow w w′ levels id index x =
     (r : InsertReady w levels id index) → Grew w w′ levels (r .tree) (r .free) (insertNonFull levels (r .tree) index x (r .free))
 
-abbrev pub MadeRoom : List ℕ → List ℕ → ℕ → ℕ → Type 0
+abbrev MadeRoom : List ℕ → List ℕ → ℕ → ℕ → Type 0
 MadeRoom w w′ id index = (r : RoomReady w id index)
     → Grew w w′ (suc (r .height)) (r .ready .tree) (r .ready .free) (roomed (r .height) (r .ready .tree) index (r .ready .free))
 

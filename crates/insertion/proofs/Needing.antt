@@ -37,30 +37,30 @@ module _ {w : List ℕ} {id index h : ℕ} (s : Upto w (suc h) id index) where
   abbrev t : Tree (suc h)
   t = s .stands .tree
 
-  abbrev pub upto-above : Above w id index
+  abbrev upto-above : Above w id index
   upto-above = stands-above (s .stands) index (s .upto)
 
-  pub way : Step h t index
+  way : Step h t index
   way = step h t (s .stands .fit .fit) index (s .upto)
 
-  pub place : find h t index .child < length (t .kids)
+  place : find h t index .child < length (t .kids)
   place = omega (arith, way .child, s .stands .fit .fit .one-more)
 
   module _ (r : Turn) (T : Turned w id index r) where
-    abbrev pub upto-below : Upto w h (r .id) (r .sub)
+    abbrev upto-below : Upto w h (r .id) (r .sub)
     upto-below = record {
       stands = stands-kid (s .stands) (find h t index .child) place (sym (T upto-above .id));
       upto = rw (T upto-above .sub) (way .sub);
     }
 
-    abbrev pub below-node : Node w (r .id)
+    abbrev below-node : Node w (r .id)
     below-node = let u = upto-below .stands in nodeOf h (u .tree) (u .here) (u .at) (u .fit .fit)
 
     module _ (n : ℕ) (N : (q : Upto w h (r .id) (r .sub)) → n ≡ neededBelow h (q .stands .tree) (r .sub)) where
       below-needs : n ≡ neededBelow h (into h t index) (find h t index .sub)
       below-needs = N upto-below ∙ ap (neededBelow h (into h t index)) (T upto-above .sub)
 
-      pub below-few : n < 2 ^ 32
+      below-few : n < 2 ^ 32
       below-few =
           let u = upto-below .stands in
           rw (N upto-below) (few-below h (u .tree) (u .fit) (u .small) (r .sub) (upto-below .upto))
@@ -70,11 +70,11 @@ module _ {w : List ℕ} {id index h : ℕ} (s : Upto w (suc h) id index) where
         unfolding isFull
         full-kid = sym (B below-node)
 
-        pub needs-one-more : b ≡ true → 1 + n ≡ neededBelow (suc h) t index
+        needs-one-more : b ≡ true → 1 + n ≡ neededBelow (suc h) t index
         unfolding neededBelow
         needs-one-more e = rw (full-kid ∙ e) (omega (arith, below-needs))
 
-        pub needs-no-more : b ≡ false → n ≡ neededBelow (suc h) t index
+        needs-no-more : b ≡ false → n ≡ neededBelow (suc h) t index
         unfolding neededBelow
         needs-no-more e = rw (full-kid ∙ e) (omega (arith, below-needs))
 

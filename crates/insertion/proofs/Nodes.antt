@@ -113,7 +113,7 @@ above-put {w} {k} S a ea n child =
 
 -- ---- the upper half moved to a blank node
 
-pub moves-apart : {w : List ℕ} {k j : ℕ} → Moves w k j → k ≢ j
+moves-apart : {w : List ℕ} {k j : ℕ} → Moves w k j → k ≢ j
 unfolding nodeBlock
 moves-apart {w} {k} {j} s e =
     let b : getD (block w k) 0 0 ≡ length (s .node .elems) = rw (s .node .stored .is) in

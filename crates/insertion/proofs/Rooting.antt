@@ -105,7 +105,7 @@ module _ {w : List ℕ} {old : ℕ} (S : RaiseReady w old) where
     T = et f₁ old-free
 
     -- the root, the tree and the other free nodes have no node twice
-    pub once : (k : ℕ) → count k (root ∷ []) + held h₁ k t₁ + count k (drop 1 f₁) ≤ 1
+    once : (k : ℕ) → count k (root ∷ []) + held h₁ k t₁ + count k (drop 1 f₁) ≤ 1
     once k = omega (arith, S .owns .once k, count-first k f₁ (omega (arith, S .two)), one-same k (T .first))
 
     module _ (w₂ : List ℕ) (e₂ : w₂ ≡ withBlock w₁ root (nodeBlock n [] (old ∷ []))) where

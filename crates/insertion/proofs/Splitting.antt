@@ -4,7 +4,7 @@ use mathlib.Core.List.{List, [], _∷_, map-append, append-assoc}
 use Prim.Native.Nat.{ℕ, zero, suc, _+_, _≤_, _<_}
 use native.Mathlib.Numerals.{add-one}
 use native.Mathlib.Omega.{arith}
-use lib.ListN.{length, getD, take, drop, length-take, length-drop, length-map, List·getD-map}
+use lib.ListN.{length, getD, take, drop, length-take, length-drop}
 use lib.Seq.{take-suc}
 use Rattle.lists.specs.Lists.{count, insertAt}
 use Rattle.lists.proofs.All.{nil, cons, all-take, all-drop}
@@ -23,17 +23,17 @@ use Rattle.pool.specs.Chain.{Untouched, Free, Took}
 use Rattle.pool.proofs.Blocks.{length-nodeBlock, most-kids}
 use Rattle.pool.proofs.Frame.{stored-untouched, chain-untouched, untouched-both, Wrote, wrote, stored-same}
 use Rattle.tree.specs.Node.{Node}
-use Rattle.tree.specs.Lookup.{HasElement}
+use Rattle.tree.specs.Lookup.{HasElement, HasKid}
 use Rattle.tree.specs.Stands.{Owns, Reshaped}
 use Rattle.tree.proofs.Standing.{nodeOf}
-use Rattle.tree.proofs.Edits.{each-kid, tree-at, node-untouched, kids-untouched, kids-reshaped, owns-kid}
-use Rattle.insertion.specs.Nodes.{TakesKid, HasKid, Summed, Full, Moves}
+use Rattle.tree.proofs.Edits.{each-kid, tree-at, node-untouched, kids-untouched, kids-reshaped, owns-kid, kid-count, has-kid, child-is}
+use Rattle.insertion.specs.Nodes.{TakesKid, Summed, Full, Moves}
 use Rattle.insertion.specs.Ready.{SplitReady}
 use Rattle.insertion.proofs.Halves.{left-length, right-length, summed}
 
 -- ---- the model: any full child may be split, its right half into the first free node
 
-pub split-same : (h : ℕ) (t : Tree (suc h)) → Fit (suc h) t → length (t .elems) < 31 → (c : ℕ) → c < length (t .kids)
+split-same : (h : ℕ) (t : Tree (suc h)) → Fit (suc h) t → length (t .elems) < 31 → (c : ℕ) → c < length (t .kids)
     → length (kid h t c .elems) ≡ 31 → (f : List ℕ) → 0 < length f → Rearranged (suc h) t f (splitChild h t c (getD f 0 0)) (drop 1 f)
 unfolding size before
 split-same h t F r c l full [] m = absurd (omega arith)
@@ -83,14 +83,6 @@ half-block : (h : ℕ) (t : Tree h) (n : ℕ) (ks : List ℕ) → n ≡ size h t
 unfolding rootBlock
 half-block h t n ks e d = ap₂ (λ (m : ℕ) (is : List ℕ). nodeBlock m (t .elems) is) e (sym d)
 
-pub kid-count : (h : ℕ) (t : Tree (suc h)) → length (kidIds (suc h) t) ≡ length (t .kids)
-unfolding kidIds
-kid-count h t = length-map (t .kids) (idOf h)
-
-kid-id : (h : ℕ) (t : Tree (suc h)) (c : ℕ) → getD (kidIds (suc h) t) c 0 ≡ kid h t c .id
-unfolding kidIds
-kid-id h t c = List·getD-map (idOf h) (t .kids) c (none h)
-
 -- ---- the steps
 
 module _ {w : List ℕ} {id c : ℕ} (S : SplitReady w id c) where
@@ -110,17 +102,14 @@ module _ {w : List ℕ} {id c : ℕ} (S : SplitReady w id c) where
   O = owns-kid (S .owns) c (S .place)
 
   abbrev pub has-child : HasKid w id c
-  has-child = record {
-    node = nodeOf (suc h) t (S .here) (S .owns .at) (S .owns .fit);
-    below = omega (arith, S .place, kid-count h t);
-  }
+  has-child = has-kid (S .owns) (S .here) (S .place)
 
   pub has-free : Free w f
   has-free = record { chain = S .owns .chain; once = λ k. omega (arith, S .owns .once k); some = S .some }
 
   module _ (child : ℕ) (ec : (s : HasKid w id c) → child ≡ getD (s .node .kids) c 0) where
     pub is : K .id ≡ child
-    is = sym (ec has-child ∙ kid-id h t c)
+    is = child-is (S .owns) (S .here) (S .place) child ec
 
     abbrev node : Node w child
     node = nodeOf h K is (O .at) (O .fit)
@@ -136,7 +125,7 @@ module _ {w : List ℕ} {id c : ℕ} (S : SplitReady w id c) where
       T = et f has-free
 
       -- the node, its children with all below them, the sibling and the other free nodes have no node twice
-      pub once : (k : ℕ) → count k (id ∷ [])
+      once : (k : ℕ) → count k (id ∷ [])
           + (total (held h k) (take c (t .kids)) + (held h k K + total (held h k) (drop (suc c) (t .kids))))
           + (count k (sibling ∷ []) + count k (drop 1 f)) ≤ 1
       once k =
@@ -149,7 +138,7 @@ module _ {w : List ℕ} {id c : ℕ} (S : SplitReady w id c) where
             one-same k (T .first),
           )
 
-      pub child-held : (k : ℕ) → count k (child ∷ []) ≤ held h k K
+      child-held : (k : ℕ) → count k (child ∷ []) ≤ held h k K
       child-held k = omega (arith, one-same k is, held-id h k K)
 
       -- neither the node nor the child is the sibling, nor are they one
@@ -286,4 +275,5 @@ module _ {w : List ℕ} {id c : ℕ} (S : SplitReady w id c) where
                   ))
                   (stored-same (S .here) (split-block h t c sibling (S .place) m (em has-middle) z) (W₄ .stored))
                   (cons at-left (cons at-right nil))
-                  (chain-untouched U₁ (λ k b. omega (arith, counts₁ k, counts k, once k, child-held k)) (W₄ .chain ∙ W₃ .chain ∙ W₂ .chain) (T .chain)))
+                  (chain-untouched U₁ (λ k b. omega (arith, counts₁ k, counts k, once k, child-held k))
+                  (W₄ .chain ∙ W₃ .chain ∙ W₂ .chain) (T .chain)))

@@ -134,7 +134,7 @@ module _ {w : List ℕ} {known : Known} {index : ℕ} (x n : ℕ) (N : (q : BagR
       unfolding isFull
       is-full-root = sym (A (root-node b ne))
 
-      pub root-enough : needed (rooted h t) index ≤ length g
+      root-enough : needed (rooted h t) index ≤ length g
       root-enough = subst (λ (r : Root). needed r index ≤ length g) (R .is) enough
 
       -- the caller's nodes
@@ -197,10 +197,10 @@ module _ {w : List ℕ} {known : Known} {index : ℕ} (x n : ℕ) (N : (q : BagR
           abbrev u : Tree (suc h)
           u = aboveRoot h t g
 
-          pub raised : Raised w w₁ h t g root
+          raised : Raised w w₁ h t g root
           raised = E raise-ready
 
-          pub lifted : Lifted h t index g u
+          lifted : Lifted h t index g u
           lifted = lift-law h t (R .owns .fit) root-full index (index-upto b ne) g (omega (arith, two-enough))
 
           abbrev raised-ready : InsertReady w₁ (suc h) root index

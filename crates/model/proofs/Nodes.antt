@@ -1,10 +1,10 @@
 -- What a tree is made of, at any height: its list, its size, the nodes that it holds; nodes joined, and cut at a separator.
 use mathlib.Core.Path.{_≡_, refl, sym, ap, ap₂, _∙_}
 use mathlib.Core.List.{List, [], _∷_, _++_, map, map-append}
-use Prim.Native.Nat.{ℕ, zero, suc, _+_, _-_, _≤_, _<_}
+use Prim.Native.Nat.{ℕ, zero, suc, _+_, _≤_, _<_}
 use native.Mathlib.Omega.{arith}
 use lib.ListN.{length, take, drop, getD, length-append, length-map, length-take, length-drop, take-append-drop}
-use lib.Seq.{split-at, getD-drop}
+use lib.Seq.{split-at}
 use Rattle.lists.specs.Lists.{count}
 use Rattle.lists.proofs.All.{All, all-append, all-take, all-drop, all-map, all-at, all-of}
 use Rattle.lists.proofs.Sums.{total, total-append, total-at, measure-concat}
@@ -44,21 +44,6 @@ kids-held h k t c l = omega (arith, held-inner h k t, total-at (held h k) (t .ki
 -- a node and one of its children
 pub held-kid : (h k : ℕ) (t : Tree (suc h)) (c : ℕ) → c < length (t .kids) → count k (t .id ∷ []) + held h k (kid h t c) ≤ held (suc h) k t
 held-kid h k t c l = omega (arith, kids-held h k t c l)
-
--- two of its children
-pub held-kids : (h k : ℕ) (t : Tree (suc h)) (c d : ℕ) → c < d → d < length (t .kids)
-    → held h k (kid h t c) + held h k (kid h t d) ≤ held (suc h) k t
-held-kids h k t c d l m =
-    let rest : List (Tree h) = drop (suc c) (t .kids) in
-    let e : suc c + (d - suc c) ≡ d = omega arith in
-    let same : getD rest (d - suc c) (none h) ≡ kid h t d = getD-drop (suc c) (t .kids) (d - suc c) (none h) ∙ ap (kid h t) e in
-    omega (
-      arith,
-      held-inner h k t,
-      total-at (held h k) (t .kids) c (none h) (omega arith),
-      total-at (held h k) rest (d - suc c) (none h) (rw length-drop (omega arith)),
-      ap (held h k) same,
-    )
 
 -- ---- a tree's shape: all that makes it fit, but how many elements its root has
 

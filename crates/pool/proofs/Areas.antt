@@ -11,7 +11,8 @@ use Rattle.words.specs.Words.{run}
 use Rattle.words.proofs.Laws.{run-length, run-getD}
 use Rattle.pool.specs.Layout.{nodeWords, slots}
 use Rattle.pool.proofs.Blocks.{length-slots}
-use Rattle.pool.proofs.Slots.{parts, parts-elems, parts-kids, elems-run, kids-run, slots-getD, slots-append, slots-open, slots-close, slots-clear, slots-copy}
+use Rattle.pool.proofs.Slots.{parts, parts-elems, parts-kids, elems-run, kids-run}
+use Rattle.pool.proofs.Slots.{slots-getD, slots-append, slots-open, slots-close, slots-clear, slots-copy}
 
 -- ---- words in which n slots stand from o on
 

@@ -46,8 +46,8 @@ module _ (w : List ℕ) (k : ℕ) (ys : List ℕ) where
         ]
 
 -- a run of words of one node lies before or behind one of another
-pub runs-apart : {w : List ℕ} {k j : ℕ} → Inside w k → Inside w j → k ≢ j → (from to n : ℕ) → start k ≤ from → from + n ≤ start k + nodeWords
-    → start j ≤ to → to + n ≤ start j + nodeWords → (to ≤ from) ⊎ (from + n ≤ to)
+pub runs-apart : {w : List ℕ} {k j : ℕ} → Inside w k → Inside w j → k ≢ j → (from to n : ℕ) → start k ≤ from
+    → from + n ≤ start k + nodeWords → start j ≤ to → to + n ≤ start j + nodeWords → (to ≤ from) ⊎ (from + n ≤ to)
 runs-apart {k = k} {j} K J ne from to n a b c d =
     let some = K .some in
     let more = J .some in

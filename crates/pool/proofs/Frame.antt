@@ -25,7 +25,7 @@ id-counted (suc h) t = omega (arith, count-self (t .id) (concat (map (ids h) (t 
 -- ---- the same blocks
 
 -- the nodes in ks have the same words in both
-abbrev pub Same : List ℕ → List ℕ → List ℕ → Type 0
+abbrev Same : List ℕ → List ℕ → List ℕ → Type 0
 Same w w′ ks = (k : ℕ) → 0 < count k ks → block w′ k ≡ block w k
 
 module _ (w w′ : List ℕ) (e : length w′ ≡ length w) where
@@ -35,7 +35,7 @@ module _ (w w′ : List ℕ) (e : length w′ ≡ length w) where
   pub stored-frame : {k : ℕ} {ys : List ℕ} → block w′ k ≡ block w k → Stored w k ys → Stored w′ k ys
   stored-frame s S = record { inside = inside-frame (S .inside); is = s ∙ S .is }
 
-  pub at-frame : (h : ℕ) (t : Tree h) → Same w w′ (ids h t) → At w h t → At w′ h t
+  at-frame : (h : ℕ) (t : Tree h) → Same w w′ (ids h t) → At w h t → At w′ h t
   at-frame zero t s A = record { here = stored-frame (s (t .id) (id-counted zero t)) (A .here); each = tt }
   at-frame (suc h) t s A = record {
     here = stored-frame (s (t .id) (id-counted (suc h) t)) (A .here);
@@ -67,7 +67,7 @@ module _ (w : List ℕ) where
 -- ---- an edit of the nodes in own
 
 -- no node of ks is among them
-abbrev pub Apart : List ℕ → List ℕ → Type 0
+abbrev Apart : List ℕ → List ℕ → Type 0
 Apart own ks = (k : ℕ) → 0 < count k ks → count k own ≡ 0
 
 module _ {w w′ own : List ℕ} (U : Untouched w w′ own) where

@@ -126,7 +126,7 @@ module _ (h : ℕ) (t : Tree (suc h)) (i : ℕ) (f : List ℕ) (F : Fit (suc h) 
   pub filled : Says h t c i Inside → Refilled h t i f (fill h t c f)
   filled p = fill-law h t c i f F n (way .child) (omega (arith, way .index)) p
 
-  pub merged : Says h t c i ByMerge → Refilled h t i f (record { node = merge h t c; child = c; free = kid h t (c + 1) .id ∷ f })
+  merged : Says h t c i ByMerge → Refilled h t i f (record { node = merge h t c; child = c; free = kid h t (c + 1) .id ∷ f })
   merged p = merge-refills h t F c (place-of (p .0)) (p .1) (p .2) i f (omega (arith, way .index)) (omega (arith, p .0))
 
   beside-law : (d j : ℕ) → c < length (t .elems) → d < length (t .kids) → 16 ≤ length (kid h t d .elems) → j < size h (kid h t d)

@@ -16,9 +16,9 @@ use Rattle.model.proofs.Find.{Step}
 use Rattle.model.proofs.Fill.{Refilled}
 use Rattle.model.proofs.Remove.{Says}
 use Rattle.tree.specs.declared.Turn.{Turn}
-use Rattle.tree.specs.Lookup.{Above, Turns}
+use Rattle.tree.specs.Lookup.{Above, Turns, HasKid}
 use Rattle.tree.specs.Stands.{Owns, Reshaped}
-use Rattle.tree.proofs.Edits.{reshaped-none, owns-above}
+use Rattle.tree.proofs.Edits.{has-kid, child-is, reshaped-none, owns-above}
 use Rattle.removal.specs.declared.Descent.{Descent}
 use Rattle.repair.specs.Ready.{PairReady, Few, FillReady, Fills}
 use Rattle.removal.specs.Down.{downBy, descend, DownReady, Went}
@@ -121,8 +121,14 @@ module _ {w : List ℕ} {id index : ℕ} (s : DownReady w id index) where
       place : c < length (t .elems)
       place = place-of h t index f (O .fit) (s .ready .some) (s .ready .below) (omega (arith, W .index, end))
 
+      next-place : u .child + 1 < length (t .kids)
+      next-place = rw (T .child) (omega (arith, place, O .fit .one-more))
+
       pub next-kid : FillReady w id (u .child + 1)
-      next-kid = kid-ready (u .child + 1) (rw (T .child) (omega (arith, place, O .fit .one-more)))
+      next-kid = kid-ready (u .child + 1) next-place
+
+      pub next-has : HasKid w id (u .child + 1)
+      next-has = has-kid O (s .ready .here) next-place
 
       -- what the tests say of the two children
       left-thin : {b : Bool} → ThinIs w id (u .child) b → isThin h (kid h t c) ≡ b
@@ -153,12 +159,12 @@ module _ {w : List ℕ} {id index : ℕ} (s : DownReady w id index) where
 
       module _ (e : ThinIs w id (u .child) true) where
         pub went-first : ThinIs w id (u .child + 1) false
-            → (k : ℕ) → ((q : FillReady w id (u .child + 1)) → k ≡ kid (q .height) (q .tree) (u .child + 1) .id)
+            → (k : ℕ) → ((q : HasKid w id (u .child + 1)) → k ≡ getD (q .node .kids) (u .child + 1) 0)
             → Went w w h t f (descend h t index f) (record { id = k; index = 0; swaps = true; at = u .child; freed = 0 })
         unfolding wayFor downBy next-kid kid-ready
         went-first g k ek =
             by ByFirst (rw (sep, left-thin e, right-thin g) refl) (record {
-              id = subst (λ (d : ℕ). k ≡ kid h t (d + 1) .id) (T .child) (ek next-kid);
+              id = subst (λ (d : ℕ). k ≡ kid h t (d + 1) .id) (T .child) (sym (child-is O (s .ready .here) next-place k ek));
               index = refl;
               swaps = refl;
               at = T .child;

@@ -187,14 +187,14 @@ module _ {w : List ℕ} {h id index : ℕ} (q : RemoveReady w (suc h) id index) 
     abbrev top : Node w₁ id
     top = seated (record { id = here; at = O .at; fit = O .fit }) .node
 
-    pub up-ready : UpReady w₂ id r
+    up-ready : UpReady w₂ id r
     up-ready = record {
       node = node-untouched (C .reshaped .untouched) (root-apart O (D .child) (L .child) id here) top;
       some = omega (arith, L .same .sized, q .below);
       place = λ e. omega (arith, M .at, L .place (sym (M .swaps) ∙ e));
     }
 
-    pub freed-few : r .freed + b .freed ≤ suc h
+    freed-few : r .freed + b .freed ≤ suc h
     freed-few =
         omega (
           arith,
@@ -222,7 +222,7 @@ module _ {w : List ℕ} {h id index : ℕ} (q : RemoveReady w (suc h) id index) 
         ) in
         omega (arith, e, k, total-set (size h) (D .node .kids) (D .child) (none h) (R .tree) (L .child))
 
-    pub removed : (old : ℕ) (w₃ : List ℕ) → ((u : UpReady w₂ id r) → Up w₂ w₃ id r (b .old) (u .node) old)
+    removed : (old : ℕ) (w₃ : List ℕ) → ((u : UpReady w₂ id r) → Up w₂ w₃ id r (b .old) (u .node) old)
         → Removes w w₃ (suc h) t f (remove (suc h) t index f) (record { old = old; freed = r .freed + b .freed })
     unfolding up-ready s seats
     removed old w₃ up =
@@ -250,11 +250,11 @@ module _ {w : List ℕ} {h id index : ℕ} (q : RemoveReady w (suc h) id index) 
 -- ---- the same at any number of levels
 
 -- what the calls ensure
-abbrev pub WentDown : List ℕ → List ℕ → ℕ → ℕ → Descent → Type 0
+abbrev WentDown : List ℕ → List ℕ → ℕ → ℕ → Descent → Type 0
 WentDown w w₁ id index r =
     (s : DownReady w id index) → Went w w₁ (s .height) (s .ready .tree) (s .ready .free) (descend (s .height) (s .ready .tree) index (s .ready .free)) r
 
-abbrev pub CutOut : List ℕ → List ℕ → ℕ → ℕ → ℕ → Cut → Type 0
+abbrev CutOut : List ℕ → List ℕ → ℕ → ℕ → ℕ → Cut → Type 0
 CutOut w w′ levels id index b =
     (s : RemoveReady w levels id index) → Removes w w′ levels (s .tree) (s .free) (remove levels (s .tree) index (s .free)) b
 

@@ -8,7 +8,7 @@ use native.Mathlib.Decide.{decLt}
 use native.Mathlib.Omega.{arith}
 use borrow.Author.Tests.{lt-ltb, le-ltb}
 use lib.Dec.{leb}
-use lib.ListN.{length}
+use lib.ListN.{length, getD}
 use Rattle.model.specs.Tree.{Tree, kid}
 use Rattle.model.specs.Remove.{isThin, merge, borrowLeft, borrowRight, repairFor, repaired, fill}
 use Rattle.model.specs.declared.Repair.{Repair}
@@ -17,7 +17,8 @@ use Rattle.model.proofs.Fill.{Says, says}
 use Rattle.pool.specs.Parts.{Inside, countAt}
 use Rattle.pool.proofs.Node.{at-count}
 use Rattle.tree.specs.Stands.{Reshaped}
-use Rattle.tree.proofs.Edits.{reshaped-none}
+use Rattle.tree.specs.Lookup.{HasKid}
+use Rattle.tree.proofs.Edits.{child-is, reshaped-none}
 use Rattle.repair.specs.Ready.{PairReady, Few, LeftLends, RightLends, FillReady}
 use Rattle.repair.specs.Ready.{Fills}
 
@@ -37,13 +38,16 @@ module _ {w : List ℕ} {id c : ℕ} (s : FillReady w id c) where
   sibling d l = record { height = h; tree = t; free = s .free; owns = s .owns; here = s .here; some = s .some; place = l }
 
   -- the count of child c, which is in node k
-  module _ (k : ℕ) (ek : (q : FillReady w id c) → k ≡ kid (q .height) (q .tree) c .id) where
+  module _ (k : ℕ) (ek : (q : HasKid w id c) → k ≡ getD (q .node .kids) c 0) where
+    is : kid h t c .id ≡ k
+    is = child-is (s .owns) (s .here) (s .place) k ek
+
     pub kid-inside : Inside w k
-    kid-inside = rw (ek s) (s .owns .at .each c (s .place) .here .inside)
+    kid-inside = subst (Inside w) is (s .owns .at .each c (s .place) .here .inside)
 
     pub thin-is : (n : ℕ) → n ≡ countAt w k → leb n 15 ≡ isThin h (kid h t c)
     unfolding isThin
-    thin-is n e = rw (e, ek s, at-count w h (kid h t c) (s .owns .at .each c (s .place) .here)) refl
+    thin-is n e = rw (e, ← is, at-count w h (kid h t c) (s .owns .at .each c (s .place) .here)) refl
 
   pub count-is : (m : ℕ) → m ≡ countAt w id → m + 1 ≡ length (t .kids)
   count-is m e =

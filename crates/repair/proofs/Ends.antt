@@ -24,27 +24,27 @@ use Rattle.repair.proofs.Pieces.{some-node}
 -- ---- lists: the last element out, one more in at the end, and the element at an end by itself
 
 module _ {A : Type 0} where
-  pub last-out : (xs : List A) (m : ℕ) → length xs ≡ suc m → butLast xs ≡ removeAt xs m
+  last-out : (xs : List A) (m : ℕ) → length xs ≡ suc m → butLast xs ≡ removeAt xs m
   unfolding butLast removeAt
   last-out xs m e =
       let n : length xs - 1 ≡ m = omega arith in
       rw (n, drop-of-length-le xs {i = suc m} (omega arith), append-nil)
 
-  pub end-in : (xs : List A) (x : A) → insertAt xs (length xs) x ≡ xs ++ (x ∷ [])
+  end-in : (xs : List A) (x : A) → insertAt xs (length xs) x ≡ xs ++ (x ∷ [])
   unfolding insertAt
   end-in xs x = rw (take-length xs, drop-length xs)
 
-  pub last-one : (xs : List A) (m : ℕ) (d : A) → length xs ≡ suc m → drop (length xs - 1) xs ≡ getD xs m d ∷ []
+  last-one : (xs : List A) (m : ℕ) (d : A) → length xs ≡ suc m → drop (length xs - 1) xs ≡ getD xs m d ∷ []
   last-one xs m d e =
       let n : length xs - 1 ≡ m = omega arith in
       rw (n, drop-cons xs m d (omega arith), drop-of-length-le xs {i = suc m} (omega arith))
 
-  pub first-one : (xs : List A) (d : A) → 0 < length xs → take 1 xs ≡ getD xs 0 d ∷ []
+  first-one : (xs : List A) (d : A) → 0 < length xs → take 1 xs ≡ getD xs 0 d ∷ []
   first-one [] d l = absurd (omega arith)
   first-one (x ∷ xs) d l = refl
 
 -- zeros without one, and with one more
-pub zeros-out : (n j : ℕ) → j ≤ n → removeAt (replicate {A = ℕ} (suc n) 0) j ≡ replicate n 0
+zeros-out : (n j : ℕ) → j ≤ n → removeAt (replicate {A = ℕ} (suc n) 0) j ≡ replicate n 0
 unfolding removeAt
 zeros-out n zero l = refl
 zeros-out zero (suc j) l = absurd (omega arith)
@@ -102,16 +102,16 @@ seated {w} {h} {t} {k} T = record {
 
 -- ---- what is below children
 
-pub sizes : (h : ℕ) → List (Below h) → ℕ
+sizes : (h : ℕ) → List (Below h) → ℕ
 sizes zero ks = 0
 sizes (suc h) ks = total (size h) ks
 
-pub size-sizes : (h : ℕ) (t : Tree h) → size h t ≡ length (t .elems) + sizes h (t .kids)
+size-sizes : (h : ℕ) (t : Tree h) → size h t ≡ length (t .elems) + sizes h (t .kids)
 unfolding size sizes
 size-sizes zero t = omega arith
 size-sizes (suc h) t = refl
 
-pub sizes-append : (h : ℕ) (xs ys : List (Below h)) → sizes h (xs ++ ys) ≡ sizes h xs + sizes h ys
+sizes-append : (h : ℕ) (xs ys : List (Below h)) → sizes h (xs ++ ys) ≡ sizes h xs + sizes h ys
 unfolding sizes
 sizes-append zero xs ys = omega arith
 sizes-append (suc h) xs ys = total-append (size h) xs ys

@@ -17,16 +17,17 @@ use Rattle.pool.specs.Chain.{Untouched, Gave}
 use Rattle.pool.proofs.Node.{at-count}
 use Rattle.pool.proofs.Frame.{stored-untouched, untouched-both, Wrote, wrote, stored-same}
 use Rattle.pool.proofs.Blocks.{length-nodeBlock, length-rootBlock}
+use Rattle.tree.specs.Lookup.{HasKid}
 use Rattle.tree.specs.Stands.{Owns, Reshaped}
 use Rattle.tree.proofs.Edits.{KidAt, tree-at}
 use Rattle.repair.specs.declared.Piece.{Piece}
 use Rattle.repair.specs.declared.End.{End}
-use Rattle.repair.specs.Ready.{PairReady, Few, LeftLends, RightLends, FillReady}
+use Rattle.repair.specs.Ready.{PairReady, Few, LeftLends, RightLends}
 use Rattle.repair.specs.Pieces.{Takes, TookOut, Joins, lengthOr, Lends, Lent}
 use Rattle.repair.proofs.Ends.{seats, seats-length, In, seated, slot-inside, join-block}
 use Rattle.repair.proofs.Ends.{last-less, last-given, front-taken, first-less, first-given, back-taken}
 use Rattle.repair.proofs.Lending.{seated-kept}
-use Rattle.repair.proofs.Pairing.{left-is, right-is, Pair, top-in, left-in, right-in, pair-sizes, pair-ids, merged-ids}
+use Rattle.repair.proofs.Pairing.{pair-is, Pair, top-in, left-in, right-in, pair-sizes, pair-ids, merged-ids}
 use Rattle.repair.proofs.Pairing.{left-below, right-below, left-right, right-in-use, left-kids, right-kids, pair-chain, pair-rebuilt}
 
 pub root-is : (h : ℕ) (t : Tree (suc h)) → rootBlock (suc h) t ≡ nodeBlock (size (suc h) t) (t .elems) (map (idOf h) (t .kids))
@@ -38,7 +39,7 @@ count-three k x y z = omega (arith, count-append k (x ∷ []) (y ∷ (z ∷ []))
 
 -- ---- merge, in the order of the code
 
-module _ {w : List ℕ} {id c : ℕ} (s : PairReady Few w id c) (l : ℕ) (hl : (q : FillReady w id c) → l ≡ kid (q .height) (q .tree) c .id) where
+module _ {w : List ℕ} {id c : ℕ} (s : PairReady Few w id c) (l : ℕ) (hl : (q : HasKid w id c) → l ≡ getD (q .node .kids) c 0) where
   abbrev h : ℕ
   h = s .height
 
@@ -69,7 +70,7 @@ module _ {w : List ℕ} {id c : ℕ} (s : PairReady Few w id c) (l : ℕ) (hl : 
       owns = O;
       place = s .place;
       top = s .here;
-      left = left-is s l hl;
+      left = pair-is s c (omega arith) l hl;
       right = sym (took merge-take .kid ∙ List·getD-map (idOf h) (t .kids) (c + 1) (none h));
     }
 
@@ -168,10 +169,10 @@ lends-of {h = h} {x = x} T X Y place u v n few i p a b li lp less la lb room = r
 
 -- what is read for either borrow
 module _ {P : ℕ → ℕ → Type 0} {w : List ℕ} {id c : ℕ} (s : PairReady P w id c) (l r : ℕ)
-    (hl : (q : FillReady w id c) → l ≡ kid (q .height) (q .tree) c .id)
-    (hr : (q : FillReady w id (c + 1)) → r ≡ kid (q .height) (q .tree) (c + 1) .id) where
+    (hl : (q : HasKid w id c) → l ≡ getD (q .node .kids) c 0)
+    (hr : (q : HasKid w id (c + 1)) → r ≡ getD (q .node .kids) (c + 1) 0) where
   pair : Pair w (s .height) (s .tree) (s .free) c id l r
-  pair = record { owns = s .owns; place = s .place; top = s .here; left = left-is s l hl; right = right-is s r hr }
+  pair = record { owns = s .owns; place = s .place; top = s .here; left = pair-is s c (omega arith) l hl; right = pair-is s (c + 1) (omega arith) r hr }
 
   pub pair-inside : Inside w l
   pair-inside = rw (← (pair .left)) (left-in pair .at .here .inside)
@@ -190,8 +191,8 @@ abbrev frontOf : ℕ → End
 frontOf r = record { node = r; elem = 0; kid = 0 }
 
 module _ {w : List ℕ} {id c : ℕ} (l r m : ℕ)
-    (hl : (q : FillReady w id c) → l ≡ kid (q .height) (q .tree) c .id)
-    (hr : (q : FillReady w id (c + 1)) → r ≡ kid (q .height) (q .tree) (c + 1) .id) (em : m ≡ countAt w l) where
+    (hl : (q : HasKid w id c) → l ≡ getD (q .node .kids) c 0)
+    (hr : (q : HasKid w id (c + 1)) → r ≡ getD (q .node .kids) (c + 1) 0) (em : m ≡ countAt w l) where
   -- the left child lends
   module _ (s : PairReady LeftLends w id c) where
     abbrev hL : ℕ

@@ -14,56 +14,23 @@ use Rattle.lists.proofs.Counts.{count-self, one-same, ones-apart}
 use Rattle.lists.proofs.Edits.{split-two, map-removeAt}
 use Rattle.model.specs.Tree.{Tree, kid, none, size}
 use Rattle.model.proofs.Nodes.{held, held-inner, held-id}
-use Rattle.pool.specs.Layout.{chainWord, start, block, idOf, rootBlock}
+use Rattle.pool.specs.Layout.{chainWord, idOf, rootBlock}
 use Rattle.pool.specs.Parts.{Stored, At, ChainAt}
 use Rattle.pool.specs.Chain.{Untouched}
-use Rattle.pool.proofs.Store.{part, block-in}
-use Rattle.pool.proofs.Node.{at-kid}
 use Rattle.pool.proofs.Frame.{chain-untouched}
+use Rattle.tree.specs.Lookup.{HasKid}
 use Rattle.tree.specs.Stands.{Owns, Reshaped}
-use Rattle.tree.proofs.Edits.{KidAt, each-kid, kids-untouched, kids-reshaped}
-use Rattle.repair.specs.Ready.{PairReady, FillReady}
+use Rattle.tree.proofs.Edits.{KidAt, each-kid, kids-untouched, kids-reshaped, has-kid, child-is}
+use Rattle.repair.specs.Ready.{PairReady}
 use Rattle.repair.proofs.Ends.{In}
 
-pub child-is : {w : List ℕ} {id c : ℕ} (s : FillReady w id c) (a : ℕ) → a ≡ start id → (r : ℕ) → r ≡ getD (part w a) (33 + c) 0
-    → r ≡ kid (s .height) (s .tree) c .id
-child-is {w} {id} {c} s a ea r er =
-    let O = s .owns in
-    er ∙ ap (λ (b : List ℕ). getD b (33 + c) 0) (block-in w a id ea ∙ ap (block w) (sym (s .here)))
-    ∙ at-kid w (s .height) (s .tree) (O .at .here) (O .fit .most) c (omega (arith, s .place, O .fit .one-more, O .fit .most))
+-- the pair's children, as the words of the node name them
+module _ {P : ℕ → ℕ → Type 0} {w : List ℕ} {id c : ℕ} (s : PairReady P w id c) (d : ℕ) (m : d ≤ c + 1) where
+  abbrev pub pair-kid : HasKid w id d
+  pair-kid = has-kid (s .owns) (s .here) (omega (arith, s .place, s .owns .fit .one-more))
 
--- the pair's children, each by itself
-module _ {P : ℕ → ℕ → Type 0} {w : List ℕ} {id c : ℕ} (s : PairReady P w id c) where
-  pub left-kid : FillReady w id c
-  left-kid = record {
-    height = s .height;
-    tree = s .tree;
-    free = s .free;
-    owns = s .owns;
-    here = s .here;
-    some = omega (arith, s .place);
-    place = omega (arith, s .place, s .owns .fit .one-more);
-  }
-
-  pub right-kid : FillReady w id (c + 1)
-  right-kid = record {
-    height = s .height;
-    tree = s .tree;
-    free = s .free;
-    owns = s .owns;
-    here = s .here;
-    some = omega (arith, s .place);
-    place = omega (arith, s .place, s .owns .fit .one-more);
-  }
-
-  -- read off the words
-  pub left-is : (l : ℕ) → ((q : FillReady w id c) → l ≡ kid (q .height) (q .tree) c .id) → kid (s .height) (s .tree) c .id ≡ l
-  unfolding left-kid
-  left-is l e = sym (e left-kid)
-
-  pub right-is : (r : ℕ) → ((q : FillReady w id (c + 1)) → r ≡ kid (q .height) (q .tree) (c + 1) .id) → kid (s .height) (s .tree) (c + 1) .id ≡ r
-  unfolding right-kid
-  right-is r e = sym (e right-kid)
+  pub pair-is : (k : ℕ) → ((q : HasKid w id d) → k ≡ getD (q .node .kids) d 0) → kid (s .height) (s .tree) d .id ≡ k
+  pair-is k e = child-is (s .owns) (s .here) (omega (arith, s .place, s .owns .fit .one-more)) k e
 
 -- ---- children c and c + 1 of t, in nodes l and r, with t itself in node i
 

@@ -109,11 +109,11 @@ module _ {w : List ℕ} {k j : ℕ} (s : HasSlot w k j) (a : ℕ) (ea : a ≡ st
 
 -- ---- another node's words put behind a node's own
 
-pub node-count : {w : List ℕ} {k : ℕ} (m : Node w k) → countAt w k ≡ length (m .elems)
+node-count : {w : List ℕ} {k : ℕ} (m : Node w k) → countAt w k ≡ length (m .elems)
 unfolding nodeBlock
 node-count m = ap (λ (b : List ℕ). getD b 0 0) (m .stored .is)
 
-pub node-size : {w : List ℕ} {k : ℕ} (m : Node w k) → lengthAt w k ≡ m .size
+node-size : {w : List ℕ} {k : ℕ} (m : Node w k) → lengthAt w k ≡ m .size
 unfolding nodeBlock
 node-size m = ap (λ (b : List ℕ). getD b 1 0) (m .stored .is)
 

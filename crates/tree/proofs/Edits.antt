@@ -1,9 +1,9 @@
 -- Edits of trees that stand in the pool: what an edit elsewhere leaves, a node with new words or other children, and one edit after another.
-use mathlib.Core.Path.{_≡_}
+use mathlib.Core.Path.{_≡_, sym, _∙_}
 use mathlib.Core.List.{List, [], _∷_, _++_}
 use Prim.Native.Nat.{ℕ, zero, suc, _+_, _≤_, _<_}
 use native.Mathlib.Omega.{arith}
-use lib.ListN.{length, set, take, drop}
+use lib.ListN.{length, getD, set, take, drop, length-map, List·getD-map}
 use lib.Seq.{set-split}
 use Rattle.lists.specs.Lists.{sum, count}
 use Rattle.lists.proofs.All.{All, nil, cons, all-append, all-take, all-drop, all-at, all-of}
@@ -11,14 +11,15 @@ use Rattle.lists.proofs.Sums.{total}
 use Rattle.lists.proofs.Counts.{count-append, count-self, one-same}
 use Rattle.model.specs.Tree.{Tree, Below, kid, none, size, ids}
 use Rattle.model.proofs.Nodes.{held, held-inner, held-id, kids-held, kid-size, Rearranged}
-use Rattle.pool.specs.Layout.{rootBlock}
+use Rattle.pool.specs.Layout.{idOf, kidIds, rootBlock}
 use Rattle.pool.specs.Parts.{Stored, At, KidsAt, ChainAt}
 use Rattle.pool.specs.Chain.{Untouched}
 use Rattle.pool.proofs.Frame.{at-untouched, stored-untouched, chain-untouched, untouched-more, untouched-none, untouched-both}
 use Rattle.pool.proofs.Frame.{Wrote, stored-same}
 use Rattle.tree.specs.Node.{Node}
 use Rattle.tree.specs.Stands.{Stands, Owns, Reshaped}
-use Rattle.tree.specs.Lookup.{Above}
+use Rattle.tree.specs.Lookup.{Above, HasKid}
+use Rattle.tree.proofs.Standing.{nodeOf}
 
 -- ---- the children of a node, leaf or not
 
@@ -34,13 +35,13 @@ each-kid w zero {ks} K = go ks
     go (k ∷ ks) = absurd k
 each-kid w (suc h) {ks} K = all-of (none h) ks K
 
-pub kids-at : (w : List ℕ) (h : ℕ) {ks : List (Below h)} → All (KidAt w h) ks → KidsAt w h ks
+kids-at : (w : List ℕ) (h : ℕ) {ks : List (Below h)} → All (KidAt w h) ks → KidsAt w h ks
 kids-at w zero A = tt
 kids-at w (suc h) A = all-at (none h) A
 
 -- a tree from its own words and its children
-pub tree-at : {w : List ℕ} {k : ℕ} {b : List ℕ} (h : ℕ) (t : Tree h) → t .id ≡ k → b ≡ rootBlock h t → Stored w k b → All (KidAt w h) (t .kids)
-    → At w h t
+pub tree-at : {w : List ℕ} {k : ℕ} {b : List ℕ} (h : ℕ) (t : Tree h) → t .id ≡ k → b ≡ rootBlock h t → Stored w k b
+    → All (KidAt w h) (t .kids) → At w h t
 tree-at {w} h t e d S K = record { here = stored-same e d S; each = kids-at w h K }
 
 -- ---- what an edit elsewhere leaves
@@ -142,6 +143,23 @@ module _ {w : List ℕ} {h : ℕ} {t : Tree (suc h)} {f : List ℕ} (O : Owns w 
       (record { id = t .id; elems = es; kids = set (t .kids) c k }) (set-split (t .kids) c k l)
       (λ j m. omega (arith, n j, kids-held h j t c l, O .once j)) (λ j z. omega (arith, n j, kids-held h j t c l)) (W .stored) (cons at nil)
       (chain-untouched (W .untouched) (λ j m. omega (arith, same j, kids-held h j t c l, O .once j)) (W .chain) (R .chain))
+
+-- ---- a child, as the words of the node name it
+
+pub kid-count : (h : ℕ) (t : Tree (suc h)) → length (kidIds (suc h) t) ≡ length (t .kids)
+unfolding kidIds
+kid-count h t = length-map (t .kids) (idOf h)
+
+module _ {w : List ℕ} {h id c : ℕ} {t : Tree (suc h)} {f : List ℕ} (O : Owns w (suc h) t f) (e : t .id ≡ id) (l : c < length (t .kids)) where
+  abbrev pub has-kid : HasKid w id c
+  has-kid = record {
+    node = nodeOf (suc h) t e (O .at) (O .fit);
+    below = omega (arith, kid-count h t);
+  }
+
+  pub child-is : (k : ℕ) → ((q : HasKid w id c) → k ≡ getD (q .node .kids) c 0) → kid h t c .id ≡ k
+  unfolding kidIds
+  child-is k ek = sym (ek has-kid ∙ List·getD-map (idOf h) (t .kids) c (none h))
 
 -- ---- no edit, one edit after another, and what holds between them
 

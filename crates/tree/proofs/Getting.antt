@@ -58,7 +58,7 @@ module _ {w : List ℕ} {id index l : ℕ} (s : Has w (suc l) id index) where
   abbrev pub above : Above w id index
   above = stands-above (s .stands) index (omega (arith, s .below))
 
-  abbrev pub t : Tree (suc l)
+  abbrev t : Tree (suc l)
   t = s .stands .tree
 
   pub F : Fit (suc l) t

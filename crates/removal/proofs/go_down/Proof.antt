@@ -8,7 +8,7 @@ use borrow.Author.Tests.{not-true, not-false}
 use denote.Ref.{now}
 use Rattle.repair.proofs.Choice.{ThinIs}
 use Rattle.removal.proofs.Going.{above, turn-kid, again, went-inside, few-kids}
-use Rattle.removal.proofs.Going.{next-kid, last-some, went-last, went-first, merge-ready, went-merged}
+use Rattle.removal.proofs.Going.{next-kid, next-has, last-some, went-last, went-first, merge-ready, went-merged}
 use Rattle.removal.proofs.go_down.Statement.{statement}
 use Rattle.removal.proofs.go_down.Tie as tie
 
@@ -74,7 +74,7 @@ go-down-spec =
           (c .before .before .before .before .before .before .before .before .before .way-to .ensures),
     ))
     (λ c κs.
-    next-kid (c .before .before .before .before .before .before .before .before .before .before .before .before .pre) _
+    next-has (c .before .before .before .before .before .before .before .before .before .before .before .before .pre) _
     (c .before .before .before .before .before .before .before .before .before .way-to .ensures)
     (not-false _ (c .before .before .before .before .before .before .before .if1 .left)))
     (λ c. search needs) returns-3
