@@ -18,7 +18,7 @@ use Rattle.pool.proofs.Store.{run-block, sets-in, set-in, withBlock-same, part,
 use Rattle.pool.proofs.Slots.{parts}
 use Rattle.pool.proofs.Areas.{Area, elem-area, kid-area, length-parts, area-word, area-read, area-append, area-open, area-close}
 use Rattle.tree.specs.Node.{Node}
-use Rattle.tree.proofs.Standing.{lent, lent-count, lent-length, lent-kid}
+use Rattle.tree.proofs.Standing.{node-count, node-size, lent, lent-count, lent-length, lent-kid}
 use Rattle.repair.specs.Pieces.{Takes, TookOut, Puts, putIn, Joins, lengthOr, HasSlot}
 
 -- a node has the length that its words say
@@ -108,14 +108,6 @@ module _ {w : List ℕ} {k j : ℕ} (s : HasSlot w k j) (a : ℕ) (ea : a ≡ st
   below-some n r e = e ∙ rw (← slot-is) (some-node w y n)
 
 -- ---- another node's words put behind a node's own
-
-node-count : {w : List ℕ} {k : ℕ} (m : Node w k) → countAt w k ≡ length (m .elems)
-unfolding nodeBlock
-node-count m = ap (λ (b : List ℕ). getD b 0 0) (m .stored .is)
-
-node-size : {w : List ℕ} {k : ℕ} (m : Node w k) → lengthAt w k ≡ m .size
-unfolding nodeBlock
-node-size m = ap (λ (b : List ℕ). getD b 1 0) (m .stored .is)
 
 -- what the code may count on; m and n are the counts, u and v the sizes
 pub record Bounds (w : List ℕ) (l r m n u v : ℕ) : Type 0 where

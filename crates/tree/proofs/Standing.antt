@@ -9,7 +9,7 @@ use Rattle.model.specs.Tree.{Tree, size}
 use Rattle.model.specs.Fit.{Fit}
 use Rattle.model.proofs.Nodes.{most}
 use Rattle.pool.specs.Layout.{nodeWords, start, withBlock, slots, nodeBlock, kidIds, rootBlock}
-use Rattle.pool.specs.Parts.{Stored, At}
+use Rattle.pool.specs.Parts.{Stored, At, countAt, lengthAt}
 use Rattle.pool.proofs.Block.{block-word}
 use Rattle.pool.proofs.Store.{set-block, part, block-in}
 use Rattle.pool.proofs.Blocks.{length-slots, length-nodeBlock, most-kids}
@@ -33,7 +33,15 @@ nodeOf {w} h t e A F = record {
   few-kids = most-kids h t F;
 }
 
--- ---- what is read of it: in the words that are lent, and in the pool
+-- ---- what is read of it: in the pool, and in the words that are lent
+
+pub node-count : {w : List ℕ} {k : ℕ} (m : Node w k) → countAt w k ≡ length (m .elems)
+unfolding nodeBlock
+node-count m = ap (λ (b : List ℕ). getD b 0 0) (m .stored .is)
+
+pub node-size : {w : List ℕ} {k : ℕ} (m : Node w k) → lengthAt w k ≡ m .size
+unfolding nodeBlock
+node-size m = ap (λ (b : List ℕ). getD b 1 0) (m .stored .is)
 
 module _ {w : List ℕ} {k : ℕ} (m : Node w k) (a : ℕ) (ea : a ≡ start k) where
   pub lent : part w a ≡ nodeBlock (m .size) (m .elems) (m .kids)

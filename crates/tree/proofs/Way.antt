@@ -10,7 +10,7 @@ use Rattle.model.specs.Tree.{Tree, kid, size, findIn, find}
 use Rattle.model.specs.Fit.{Fit}
 use Rattle.model.proofs.Find.{Step, step}
 use Rattle.pool.specs.Layout.{start, block}
-use Rattle.pool.specs.Parts.{Inside, At}
+use Rattle.pool.specs.Parts.{Inside, At, lengthAt}
 use Rattle.pool.specs.Find.{kidLengths, Inner}
 use Rattle.pool.proofs.Store.{part, block-in}
 use Rattle.pool.proofs.Node.{at-length, at-kid, kid-lengths, inner-at}
@@ -55,11 +55,11 @@ module _ {w : List ℕ} {id index : ℕ} (s : Above w id index) where
       pub way-inside : Inside w k
       way-inside = rw way-id (below .here .inside)
 
-      pub way-turns : (b n : ℕ) → b ≡ start k → n ≡ getD (part w b) 1 0
+      pub way-turns : (n : ℕ) → n ≡ lengthAt w k
           → Turns h t index (record { child = p .child; sub = p .sub; compared = p .compared; id = k; separator = eqb (p .sub) n })
-      way-turns b n eb en =
+      way-turns n en =
           let e : n ≡ size h (kid h t (find h t index .child)) =
-          en ∙ rw (block-in w b k eb, way-id) (at-length w h (kid h t (find h t index .child)) (below .here)) in
+          en ∙ rw way-id (at-length w h (kid h t (find h t index .child)) (below .here)) in
           record {
             child = ap (λ (q : Place). q .child) way-place;
             sub = ap (λ (q : Place). q .sub) way-place;

@@ -1,7 +1,6 @@
 // Lookup and replacement in a tree that is known to stand in the pool.
 ghost use mathlib.Core.Path.{_≡_};
-ghost use lib.ListN.{length, getD};
-ghost use Rattle.tree.specs.Node.{Node};
+ghost use lib.ListN.{getD};
 ghost use Rattle.tree.specs.Lookup.{Above, Turns, Has, Got, Spans, HasElement, HasKid, Swapped, Replaced};
 use model::Found;
 use model::Stretch;
@@ -22,15 +21,6 @@ pub struct Turn {
     pub compared: usize,
     pub id: usize,
     pub separator: bool,
-}
-
-// How many elements node k has.
-pub fn elements(pool: &[u64], k: usize) -> usize
-    requires { ⌜ Node (now pool) k ⌝ }
-    ensures { λ r. ⌜ ((m : Node (now (pool .entry)) k) → r ≡ length (m .elems)) ⌝ }
-{
-    let a = pool::start_of(k);
-    pool::count_of(&pool[a..a + NODE_WORDS])
 }
 
 // Element i of node k.
@@ -74,8 +64,7 @@ pub fn way_to(pool: &[u64], id: usize, index: usize) -> Turn
     let sub = p.sub;
     let compared = p.compared;
     let k = pool::kid(node, child);
-    let b = pool::start_of(k);
-    let n = pool::len(&pool[b..b + NODE_WORDS]);
+    let n = pool::length_at(pool, k);
     Turn {
         child,
         sub,
@@ -118,7 +107,7 @@ pub fn stretch(pool: &[u64], id: usize, levels: usize, index: usize) -> Stretch
     ensures { λ r. ⌜ Spans (now (pool .entry)) levels id index r ⌝ }
 {
     if levels == 0 {
-        let n = elements(pool, id);
+        let n = pool::count_at(pool, id);
         return Stretch {
             node: id,
             slot: index,
