@@ -17,13 +17,13 @@ use Rattle.model.proofs.Find.{Step, into, step}
 use Rattle.model.proofs.Insert.{full, Inserted, insert-law}
 use Rattle.pool.specs.Layout.{nodeWords, withBlock, nodeBlock, kidIds, rootBlock}
 use Rattle.pool.proofs.Blocks.{most-kids, length-nodeBlock, length-rootBlock}
+use Rattle.pool.proofs.Frame.{wrote, wrote-same}
 use Rattle.tree.specs.declared.Turn.{Turn}
 use Rattle.tree.specs.Node.{Node}
 use Rattle.tree.specs.Stands.{Owns, Reshaped}
 use Rattle.tree.specs.Lookup.{Above}
 use Rattle.tree.proofs.Standing.{nodeOf}
 use Rattle.tree.proofs.Getting.{Turned}
-use Rattle.pool.proofs.Frame.{wrote, wrote-same}
 use Rattle.tree.proofs.Edits.{node-untouched, root-reshaped, owns-kid, root-apart, kid-reshaped, reshaped-none, owns-after, reshaped-both, owns-above}
 use Rattle.insertion.specs.Nodes.{Takes, Counts}
 use Rattle.insertion.specs.Ready.{SplitReady, InsertReady}

@@ -22,10 +22,10 @@ use Rattle.pool.proofs.Node.{at-length}
 use Rattle.pool.proofs.Frame.{at-untouched, chain-untouched, untouched-more, untouched-both, Wrote, wrote, stored-same}
 use Rattle.tree.specs.declared.Known.{Known}
 use Rattle.tree.specs.Node.{Node}
+use Rattle.tree.specs.Stands.{Owns, Reshaped}
 use Rattle.tree.proofs.Standing.{nodeOf}
 use Rattle.tree.proofs.Edits.{owns-stands}
 use Rattle.tree.proofs.Rooting.{Rooted, is-rooted, is-bare, not-bare}
-use Rattle.tree.specs.Stands.{Owns, Reshaped}
 use Rattle.insertion.specs.Ready.{SplitReady, BagReady}
 use Rattle.insertion.specs.Steps.{Upto, RaiseReady, Raised}
 use Rattle.insertion.proofs.Needing.{Told, Needs, few-below}

@@ -19,10 +19,10 @@ use Rattle.tree.specs.declared.Turn.{Turn}
 use Rattle.tree.specs.Lookup.{Above, Turns, HasKid}
 use Rattle.tree.specs.Stands.{Owns, Reshaped}
 use Rattle.tree.proofs.Edits.{has-kid, child-is, reshaped-none, owns-above}
-use Rattle.removal.specs.declared.Descent.{Descent}
 use Rattle.repair.specs.Ready.{PairReady, Few, FillReady, Fills}
-use Rattle.removal.specs.Down.{downBy, descend, DownReady, Went}
 use Rattle.repair.proofs.Choice.{ThinIs}
+use Rattle.removal.specs.declared.Descent.{Descent}
+use Rattle.removal.specs.Down.{downBy, descend, DownReady, Went}
 use Rattle.removal.proofs.Descending.{fill-keeps, found-filled, way, went, place-of, filled}
 
 module _ {w : List ℕ} {id index : ℕ} (s : DownReady w id index) where

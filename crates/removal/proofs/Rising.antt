@@ -24,14 +24,14 @@ use Rattle.tree.specs.Lookup.{HasElement, Swapped}
 use Rattle.tree.specs.Stands.{Owns}
 use Rattle.tree.proofs.Standing.{length-word}
 use Rattle.tree.proofs.Edits.{node-untouched, root-reshaped, owns-kid, root-apart, kid-reshaped, owns-after, reshaped-both}
-use Rattle.removal.specs.declared.Descent.{Descent}
-use Rattle.removal.specs.declared.Cut.{Cut}
 use Rattle.repair.specs.declared.Piece.{Piece}
 use Rattle.repair.specs.Pieces.{Takes, TookOut}
-use Rattle.removal.specs.Ready.{RemoveReady, Removes}
-use Rattle.removal.specs.Down.{Descended, descend, DownReady, Went, UpReady, Up}
 use Rattle.repair.proofs.Ends.{seats, In, seated, leaf-block}
 use Rattle.repair.proofs.Moves.{root-is}
+use Rattle.removal.specs.declared.Descent.{Descent}
+use Rattle.removal.specs.declared.Cut.{Cut}
+use Rattle.removal.specs.Ready.{RemoveReady, Removes}
+use Rattle.removal.specs.Down.{Descended, descend, DownReady, Went, UpReady, Up}
 use Rattle.removal.proofs.Descending.{raised, goal, remove-raised, Descends, descends, remove-id, remove-few}
 
 taken : {A : Type 0} (x y : A) (b : Bool) → b ≡ true → x ≡ cond b x y

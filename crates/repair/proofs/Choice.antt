@@ -19,8 +19,7 @@ use Rattle.pool.proofs.Node.{at-count}
 use Rattle.tree.specs.Stands.{Reshaped}
 use Rattle.tree.specs.Lookup.{HasKid}
 use Rattle.tree.proofs.Edits.{child-is, reshaped-none}
-use Rattle.repair.specs.Ready.{PairReady, Few, LeftLends, RightLends, FillReady}
-use Rattle.repair.specs.Ready.{Fills}
+use Rattle.repair.specs.Ready.{PairReady, Few, LeftLends, RightLends, FillReady, Fills}
 
 -- child d has no element to spare, or has one
 abbrev pub ThinIs : List ℕ → ℕ → ℕ → Bool → Type 0

@@ -8,9 +8,9 @@ use lib.ListN.{length, getD, set, length-set}
 use lib.Seq.{set-split, map-set-same}
 use Rattle.lists.specs.Lists.{count, sum}
 use Rattle.lists.proofs.Counts.{count-self}
+use Rattle.lists.proofs.All.{nil, cons}
 use Rattle.model.specs.declared.Found.{Found}
 use Rattle.model.specs.Tree.{Tree, none, kid, size, ids, flat, find, withKid, withElem, get, replace}
-use Rattle.lists.proofs.All.{nil, cons}
 use Rattle.model.proofs.Nodes.{same-id, held-id, kids-held, flat-length}
 use Rattle.model.proofs.Get.{get-separator, get-inside, replace-separator, replace-inside, replace-law}
 use Rattle.pool.specs.Layout.{chainWord, withBlock, nodeBlock, idOf, kidIds, rootBlock}

@@ -9,8 +9,8 @@ use lib.ListN.{getD, take, drop}
 use Rattle.lists.specs.Lists.{sum as sumOf}
 use Rattle.lists.proofs.Sums.{total}
 use Rattle.pool.specs.Parts.{lengthAt}
-use Rattle.insertion.specs.Nodes.{Summed}
 use Rattle.tree.proofs.Standing.{lent-long, lent-kid}
+use Rattle.insertion.specs.Nodes.{Summed}
 use Rattle.insertion.proofs.Halves.{summed-less, summed-inside, summed-one, summed-none}
 use Rattle.insertion.proofs.sum_lengths.Statement.{statement}
 use Rattle.insertion.proofs.sum_lengths.Tie as tie

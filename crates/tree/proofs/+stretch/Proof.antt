@@ -3,12 +3,12 @@ use Prim.Native.Nat.{ℕ, _<_}
 use native.Mathlib.Omega.{arith}
 use borrow.Fn.Kinds.{In}
 use borrow.Fn.PlainCycle.{Measures, is, falls, and}
+use Rattle.pool.proofs.count_at.Reads as count-at
 use Rattle.tree.proofs.Getting.{has-above, has-below}
 use Rattle.tree.proofs.Spanning.{ownNode, leaf-within, leaf-spans, separator-spans, child-spans}
 use Rattle.tree.proofs.stretch.Reads as own
 use Rattle.tree.proofs.stretch.Kinds as kinds
 use Rattle.tree.proofs.+stretch.Lts-stretch as lts
-use Rattle.pool.proofs.count_at.Reads as count-at
 use Rattle.tree.proofs.way_to.Reads as way-to
 use Rattle.tree.proofs.+stretch.{statement}
 use Rattle.tree.proofs.+stretch.Tie.{close}
