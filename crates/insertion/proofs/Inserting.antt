@@ -149,7 +149,7 @@ module _ {w w₁ : List ℕ} {id index h : ℕ} (i : InsertReady w (suc h) id in
   c = find h s index .child
 
   module _ (r : Turn) (T : Turned w₁ id index r) where
-    abbrev pub next : InsertReady w₁ h (r .id) (r .sub)
+    abbrev next : InsertReady w₁ h (r .id) (r .sub)
     next = record {
       tree = into h s index;
       free = g;

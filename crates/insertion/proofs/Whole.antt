@@ -56,7 +56,7 @@ module _ {w : List ℕ} {known : Known} {index : ℕ} (x n : ℕ) (N : (q : BagR
   refuses l = record { accepted = λ m. absurd (omega (arith, N b, free-count b)); refused = λ m. (refl, refl, refl) }
 
   module _ (l : n ≤ known .free) where
-    pub enough : needed (b .bag .root) index ≤ length (b .bag .free)
+    enough : needed (b .bag .root) index ≤ length (b .bag .free)
     enough = omega (arith, N b, free-count b)
 
     accepts : {w′ : List ℕ} {k : Known} → Became w w′ (b .bag) (bagInsert (b .bag) index x) k
@@ -81,7 +81,7 @@ module _ {w : List ℕ} {known : Known} {index : ℕ} (x n : ℕ) (N : (q : BagR
       bare-free = record { chain = b .stands .chain; once = λ k. omega (arith, b .stands .once k); some = some }
 
       module _ (root : ℕ) (w₁ : List ℕ) (et : (f : List ℕ) → Free w f → Took w f root w₁) where
-        pub T : Took w f root w₁
+        T : Took w f root w₁
         T = et f bare-free
 
         pub clean : Stored w₁ root (nodeBlock 0 [] [])

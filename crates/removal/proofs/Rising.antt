@@ -162,7 +162,7 @@ module _ {w : List ℕ} {h id index : ℕ} (q : RemoveReady w (suc h) id index) 
   here : D .node .id ≡ id
   here = L .here ∙ q .here
 
-  pub next : RemoveReady w₁ h (r .id) (r .index)
+  next : RemoveReady w₁ h (r .id) (r .index)
   next = record {
     tree = K;
     free = D .free;
