@@ -10,6 +10,7 @@ use lib.ListN.{length, getD, take, drop, length-take, length-drop, length-map, t
 use lib.Seq.{take-suc, take-all, getD-drop}
 use Rattle.lists.specs.Lists.{sum}
 use Rattle.lists.proofs.All.{All, nil, cons, all-take, all-drop, all-of}
+use Rattle.lists.proofs.Edits.{map-take, map-drop}
 use Rattle.lists.proofs.Sums.{total, total-append}
 use Rattle.model.specs.Tree.{Tree, none, size}
 use Rattle.model.specs.Fit.{Fit}
@@ -18,7 +19,6 @@ use Rattle.pool.specs.Layout.{idOf, kidIds}
 use Rattle.pool.specs.Parts.{Inside, At, lengthAt}
 use Rattle.pool.proofs.Node.{at-length}
 use Rattle.tree.proofs.Standing.{nodeOf}
-use Rattle.tree.proofs.Edits.{map-take, map-drop}
 use Rattle.insertion.specs.Nodes.{Summed}
 
 -- ---- one turn of the loop

@@ -1,31 +1,30 @@
 -- Insertion below a node, step by step: what each call asks, from what the calls before it ensured, and what stands in the end.
-use mathlib.Core.Path.{_≡_, refl, sym, ap, subst, subst₂, _∙_}
+use mathlib.Core.Path.{_≡_, refl, sym, ap, subst, _∙_}
 use mathlib.Core.Bool.{Bool, true, false}
-use mathlib.Core.List.{List, [], _++_}
+use mathlib.Core.List.{List, []}
 use mathlib.Core.Logic.{_≢_}
 use Prim.Native.Nat.{ℕ, zero, suc, _+_, _≤_, _<_}
 use native.Mathlib.Omega.{arith}
 use lib.Dec.{leb}
 use lib.ListN.{length, getD, drop}
-use Rattle.lists.specs.Lists.{count, insertAt}
-use Rattle.lists.proofs.Counts.{count-append, count-self}
+use Rattle.lists.specs.Lists.{insertAt}
 use Rattle.lists.proofs.Edits.{length-insertAt}
-use Rattle.model.specs.Tree.{Tree, size, ids, find, withKid}
+use Rattle.model.specs.Tree.{Tree, size, find}
 use Rattle.model.specs.Fit.{Fit}
 use Rattle.model.specs.Insert.{isFull, splitChild, Grown, insertNonFull, neededBelow}
-use Rattle.model.proofs.Nodes.{held-kid, most}
+use Rattle.model.proofs.Nodes.{most}
 use Rattle.model.proofs.Find.{Step, into, step}
 use Rattle.model.proofs.Insert.{full, Inserted, insert-law}
 use Rattle.pool.specs.Layout.{nodeWords, withBlock, nodeBlock, kidIds, rootBlock}
 use Rattle.pool.proofs.Blocks.{most-kids, length-nodeBlock, length-rootBlock}
+use Rattle.pool.proofs.Frame.{wrote, wrote-same}
 use Rattle.tree.specs.declared.Turn.{Turn}
 use Rattle.tree.specs.Node.{Node}
 use Rattle.tree.specs.Stands.{Owns, Reshaped}
 use Rattle.tree.specs.Lookup.{Above}
 use Rattle.tree.proofs.Standing.{nodeOf}
 use Rattle.tree.proofs.Getting.{Turned}
-use Rattle.tree.proofs.Edits.{count-same, node-untouched, Wrote, wrote, root-reshaped}
-use Rattle.tree.proofs.Edits.{owns-kid, kid-reshaped, owns-after, reshaped-both}
+use Rattle.tree.proofs.Edits.{node-untouched, root-reshaped, owns-kid, root-apart, kid-reshaped, reshaped-none, owns-after, reshaped-both, owns-above}
 use Rattle.insertion.specs.Nodes.{Takes, Counts}
 use Rattle.insertion.specs.Ready.{SplitReady, InsertReady}
 use Rattle.insertion.specs.Steps.{Grew, RoomReady, roomed}
@@ -41,20 +40,9 @@ module _ {w : List ℕ} {id index h : ℕ} (i : InsertReady w (suc h) id index) 
   f = i .free
 
   abbrev pub ready-above : Above w id index
-  ready-above = record {
-    height = h;
-    stands = record {
-      tree = t;
-      here = i .here;
-      at = i .owns .at;
-      fit = record { some = i .some; fit = i .owns .fit };
-      once = λ k. omega (arith, i .owns .once k);
-      small = i .owns .small;
-    };
-    upto = i .upto;
-  }
+  ready-above = owns-above (i .owns) (i .here) index (i .upto)
 
-  pub way : Step h t index
+  way : Step h t index
   way = step h t (i .owns .fit) index (i .upto)
 
   pub place : find h t index .child < length (t .kids)
@@ -73,11 +61,7 @@ module _ {w : List ℕ} {id index h : ℕ} (i : InsertReady w (suc h) id index) 
       is-full-kid = sym (eb (nodeOf h (into h t index) (sym (T ready-above .id)) (below .at) (below .fit)))
 
       pub no-room-made : b ≡ false → Grew w w (suc h) t f (roomed h t index f)
-      no-room-made e = rw (roomed-not h t index f (is-full-kid ∙ e)) (record {
-        at = i .owns .at;
-        chain = i .owns .chain;
-        untouched = record { long = refl; head = λ j l n. refl; others = λ k I z. refl };
-      })
+      no-room-made e = rw (roomed-not h t index f (is-full-kid ∙ e)) (reshaped-none (i .owns))
 
       module _ (e : b ≡ true) where
         pub some-free : 0 < length f
@@ -103,11 +87,11 @@ module _ {w : List ℕ} {id index h : ℕ} (i : InsertReady w (suc h) id index) 
 
 -- ---- in a leaf
 
-pub leaf-upto : {w : List ℕ} {id index : ℕ} (i : InsertReady w 0 id index) → index ≤ length (i .tree .elems)
+leaf-upto : {w : List ℕ} {id index : ℕ} (i : InsertReady w 0 id index) → index ≤ length (i .tree .elems)
 unfolding size
 leaf-upto i = i .upto
 
-abbrev pub leaf-takes : {w : List ℕ} {id index : ℕ} → InsertReady w 0 id index → Takes w id index
+abbrev leaf-takes : {w : List ℕ} {id index : ℕ} → InsertReady w 0 id index → Takes w id index
 leaf-takes i = record {
   node = nodeOf 0 (i .tree) (i .here) (i .owns .at) (i .owns .fit);
   place = leaf-upto i;
@@ -120,7 +104,7 @@ leaf-block : (t : Tree 0) (es : List ℕ) → length es ≡ length (t .elems) + 
 unfolding rootBlock size kidIds
 leaf-block t es l = ap (λ (n : ℕ). nodeBlock n es []) (sym l)
 
-pub leaf-inserted : {w w′ : List ℕ} {id index : ℕ} (i : InsertReady w 0 id index) (x : ℕ) → ((s : Takes w id index)
+leaf-inserted : {w w′ : List ℕ} {id index : ℕ} (i : InsertReady w 0 id index) (x : ℕ) → ((s : Takes w id index)
     → w′ ≡ withBlock w id (nodeBlock (s .node .size + 1) (insertAt (s .node .elems) index x) (s .node .kids)))
     → Grew w w′ 0 (i .tree) (i .free) (insertNonFull 0 (i .tree) index x (i .free))
 unfolding insertNonFull
@@ -130,9 +114,8 @@ leaf-inserted {w} {w′} {id} {index} i x e =
     let s : Tree 0 = record { id = t .id; elems = es; kids = t .kids } in
     let l : length es ≡ length (t .elems) + 1 = length-insertAt (t .elems) index x (leaf-upto i) in
     let F : Fit 0 s = record { most = omega (arith, i .room) } in
-    let stored : w′ ≡ withBlock w (t .id) (rootBlock 0 s) =
-    subst₂ (λ (k : ℕ) (ys : List ℕ). w′ ≡ withBlock w k ys) (sym (i .here)) (leaf-block t es l) (e (leaf-takes i)) in
-    root-reshaped 0 t es (i .owns) (wrote stored (i .owns .at .here .inside) (length-rootBlock 0 s F))
+    root-reshaped 0 t es (i .owns) (wrote-same (i .here) refl
+    (wrote (e (leaf-takes i) ∙ ap (withBlock w id) (leaf-block t es l)) (leaf-takes i .node .stored .inside) (length-rootBlock 0 s F)))
 
 -- ---- in a node with children, where there is room
 
@@ -153,19 +136,8 @@ module _ {w w₁ : List ℕ} {id index h : ℕ} (i : InsertReady w (suc h) id in
   pub upto₁ : index ≤ size (suc h) s
   upto₁ = omega (arith, i .upto, laws .same .sized)
 
-  abbrev pub room-above : Above w₁ id index
-  room-above = record {
-    height = h;
-    stands = record {
-      tree = s;
-      here = laws .id ∙ i .here;
-      at = owns₁ .at;
-      fit = record { some = omega (arith, i .some, laws .least); fit = owns₁ .fit };
-      once = λ k. omega (arith, owns₁ .once k);
-      small = owns₁ .small;
-    };
-    upto = upto₁;
-  }
+  abbrev room-above : Above w₁ id index
+  room-above = owns-above owns₁ (laws .id ∙ i .here) index upto₁
 
   pub way₁ : Step h s index
   way₁ = step h s (owns₁ .fit) index upto₁
@@ -177,7 +149,7 @@ module _ {w w₁ : List ℕ} {id index h : ℕ} (i : InsertReady w (suc h) id in
   c = find h s index .child
 
   module _ (r : Turn) (T : Turned w₁ id index r) where
-    abbrev pub next : InsertReady w₁ h (r .id) (r .sub)
+    abbrev next : InsertReady w₁ h (r .id) (r .sub)
     next = record {
       tree = into h s index;
       free = g;
@@ -194,30 +166,20 @@ module _ {w w₁ : List ℕ} {id index h : ℕ} (i : InsertReady w (suc h) id in
       abbrev y : Grown (Tree h)
       y = insertNonFull h (into h s index) (find h s index .sub) x g
 
-      pub inner : Grew w₁ w₂ h (into h s index) g y
+      inner : Grew w₁ w₂ h (into h s index) g y
       inner = subst (λ (j : ℕ). Grew w₁ w₂ h (into h s index) g (insertNonFull h (into h s index) j x g)) (T room-above .sub) (C next)
 
-      pub inserted : Inserted h (into h s index) (find h s index .sub) x g y
+      inserted : Inserted h (into h s index) (find h s index .sub) x g y
       inserted = insert-law h (into h s index) (next .owns .fit) (laws .room) (find h s index .sub) x g (way₁ .sub) (laws .need)
 
-      pub apart : count id (ids h (into h s index) ++ g) ≡ 0
-      apart =
-          omega (
-            arith,
-            owns₁ .once id,
-            held-kid h id s c place₁,
-            count-same id (laws .id ∙ i .here),
-            count-self id [],
-            count-append id (ids h (into h s index)) g,
-          )
-
-      abbrev pub counts : Counts w₂ id
+      abbrev counts : Counts w₂ id
       counts = record {
-        node = node-untouched (inner .untouched) apart (nodeOf (suc h) s (laws .id ∙ i .here) (owns₁ .at) (owns₁ .fit));
+        node = node-untouched (inner .untouched) (root-apart owns₁ c place₁ id (laws .id ∙ i .here))
+            (nodeOf (suc h) s (laws .id ∙ i .here) (owns₁ .at) (owns₁ .fit));
         small = owns₁ .small;
       }
 
-      pub done : (w₃ : List ℕ) → ((q : Counts w₂ id)
+      done : (w₃ : List ℕ) → ((q : Counts w₂ id)
           → w₃ ≡ withBlock w₂ id (nodeBlock (q .node .size + 1) (q .node .elems) (q .node .kids)))
           → Grew w w₃ (suc h) (i .tree) (i .free) (insertNonFull (suc h) (i .tree) index x (i .free))
       done w₃ e =
@@ -226,10 +188,8 @@ module _ {w w₁ : List ℕ} {id index h : ℕ} (i : InsertReady w (suc h) id in
           (insert-id h (into h s index) (find h s index .sub) x g) in
           let l : length (nodeBlock (size (suc h) s + 1) (s .elems) (kidIds (suc h) s)) ≡ nodeWords =
           length-nodeBlock (size (suc h) s + 1) (s .elems) (kidIds (suc h) s) (owns₁ .fit .most) (most-kids (suc h) s (owns₁ .fit)) in
-          let W = wrote (e counts) (counts .node .stored .inside) l in
-          let W′ : Wrote w₂ w₃ (s .id) (rootBlock (suc h) (withKid h s c k)) =
-          subst₂ (λ (j : ℕ) (ys : List ℕ). Wrote w₂ w₃ j ys) (sym (laws .id ∙ i .here)) b W in
-          rw (laws .insert x) (reshaped-both R (laws .same .nodes) (kid-reshaped owns₁ c place₁ inner (inserted .nodes) W′))
+          let W = wrote-same (laws .id ∙ i .here) b (wrote (e counts) (counts .node .stored .inside) l) in
+          rw (laws .insert x) (reshaped-both R (laws .same .nodes) (kid-reshaped owns₁ c place₁ (s .elems) inner (inserted .nodes) W))
 
 -- ---- the same by the levels as the code has them: the call is made at l
 
@@ -237,7 +197,7 @@ abbrev pub InsertsBelow : List ℕ → List ℕ → ℕ → ℕ → ℕ → ℕ 
 InsertsBelow w w′ levels id index x =
     (r : InsertReady w levels id index) → Grew w w′ levels (r .tree) (r .free) (insertNonFull levels (r .tree) index x (r .free))
 
-abbrev pub MadeRoom : List ℕ → List ℕ → ℕ → ℕ → Type 0
+abbrev MadeRoom : List ℕ → List ℕ → ℕ → ℕ → Type 0
 MadeRoom w w′ id index = (r : RoomReady w id index)
     → Grew w w′ (suc (r .height)) (r .ready .tree) (r .ready .free) (roomed (r .height) (r .ready .tree) index (r .ready .free))
 

@@ -10,14 +10,14 @@ use lib.ListN.{length}
 use Rattle.model.specs.Tree.{Tree, size, find, rooted, listOf}
 use Rattle.model.specs.Fit.{FitTree}
 use Rattle.model.specs.Insert.{isFull, neededBelow, needed}
-use Rattle.model.proofs.Nodes.{held-kid, kid-size, flat-length}
+use Rattle.model.proofs.Nodes.{flat-length}
 use Rattle.model.proofs.Find.{Step, into, step}
 use Rattle.model.proofs.Bounds.{room}
 use Rattle.tree.specs.declared.Turn.{Turn}
 use Rattle.tree.specs.Node.{Node}
 use Rattle.tree.specs.Lookup.{Above}
 use Rattle.tree.proofs.Standing.{nodeOf}
-use Rattle.tree.proofs.Getting.{Turned}
+use Rattle.tree.proofs.Getting.{Turned, stands-above, stands-kid}
 use Rattle.insertion.specs.Steps.{Upto}
 
 -- no more than there are elements
@@ -37,37 +37,30 @@ module _ {w : List ℕ} {id index h : ℕ} (s : Upto w (suc h) id index) where
   abbrev t : Tree (suc h)
   t = s .stands .tree
 
-  abbrev pub upto-above : Above w id index
-  upto-above = record { height = h; stands = s .stands; upto = s .upto }
+  abbrev upto-above : Above w id index
+  upto-above = stands-above (s .stands) index (s .upto)
 
-  pub way : Step h t index
+  way : Step h t index
   way = step h t (s .stands .fit .fit) index (s .upto)
 
-  pub place : find h t index .child < length (t .kids)
+  place : find h t index .child < length (t .kids)
   place = omega (arith, way .child, s .stands .fit .fit .one-more)
 
   module _ (r : Turn) (T : Turned w id index r) where
-    abbrev pub upto-below : Upto w h (r .id) (r .sub)
+    abbrev upto-below : Upto w h (r .id) (r .sub)
     upto-below = record {
-      stands = record {
-        tree = into h t index;
-        here = sym (T upto-above .id);
-        at = s .stands .at .each (find h t index .child) place;
-        fit = record { some = omega (arith, way .below .least); fit = way .below .fit };
-        once = λ k. omega (arith, s .stands .once k, held-kid h k t (find h t index .child) place);
-        small = omega (arith, s .stands .small, kid-size h t (find h t index .child) place);
-      };
+      stands = stands-kid (s .stands) (find h t index .child) place (sym (T upto-above .id));
       upto = rw (T upto-above .sub) (way .sub);
     }
 
-    abbrev pub below-node : Node w (r .id)
+    abbrev below-node : Node w (r .id)
     below-node = let u = upto-below .stands in nodeOf h (u .tree) (u .here) (u .at) (u .fit .fit)
 
     module _ (n : ℕ) (N : (q : Upto w h (r .id) (r .sub)) → n ≡ neededBelow h (q .stands .tree) (r .sub)) where
       below-needs : n ≡ neededBelow h (into h t index) (find h t index .sub)
       below-needs = N upto-below ∙ ap (neededBelow h (into h t index)) (T upto-above .sub)
 
-      pub below-few : n < 2 ^ 32
+      below-few : n < 2 ^ 32
       below-few =
           let u = upto-below .stands in
           rw (N upto-below) (few-below h (u .tree) (u .fit) (u .small) (r .sub) (upto-below .upto))
@@ -77,11 +70,11 @@ module _ {w : List ℕ} {id index h : ℕ} (s : Upto w (suc h) id index) where
         unfolding isFull
         full-kid = sym (B below-node)
 
-        pub needs-one-more : b ≡ true → 1 + n ≡ neededBelow (suc h) t index
+        needs-one-more : b ≡ true → 1 + n ≡ neededBelow (suc h) t index
         unfolding neededBelow
         needs-one-more e = rw (full-kid ∙ e) (omega (arith, below-needs))
 
-        pub needs-no-more : b ≡ false → n ≡ neededBelow (suc h) t index
+        needs-no-more : b ≡ false → n ≡ neededBelow (suc h) t index
         unfolding neededBelow
         needs-no-more e = rw (full-kid ∙ e) (omega (arith, below-needs))
 

@@ -1,13 +1,10 @@
 -- What the functions on single nodes read and leave.
 use mathlib.Core.Path.{_≡_, refl, sym, ap, _∙_}
 use mathlib.Core.List.{List, [], _∷_}
-use mathlib.Core.Logic.{_≢_, _⊎_, inl, inr}
-use mathlib.Core.Bool.{Bool}
-use Prim.Native.Nat.{ℕ, _+_, _-_, _≤_, _<_}
-use native.Mathlib.Decide.{decLt}
+use mathlib.Core.Logic.{_≢_, _⊎_}
+use Prim.Native.Nat.{ℕ, _+_, _-_, _≤_}
 use native.Mathlib.Omega.{arith}
 use borrow.Rule.Slice.PartMut.{putMid}
-use lib.Dec.{leb}
 use lib.ListN.{length, getD, set, take, drop, replicate, length-take, length-drop}
 use lib.Seq.{sets}
 use Rattle.lists.specs.Lists.{insertAt}
@@ -16,92 +13,23 @@ use Rattle.words.specs.Words.{run}
 use Rattle.words.proofs.Laws.{run-length}
 use Rattle.pool.specs.Layout.{nodeWords, start, block, withBlock, slots, nodeBlock}
 use Rattle.pool.specs.Parts.{Inside}
-use Rattle.pool.proofs.Block.{block-word, block-other}
+use Rattle.pool.proofs.Block.{block-other, runs-apart}
 use Rattle.pool.proofs.Blocks.{length-slots, length-nodeBlock}
-use Rattle.pool.proofs.Store.{run-block, sets-in, set-in, sets-block, set-block, block-in, block-put}
-use Rattle.pool.proofs.Slots.{parts, parts-elems, parts-kids, elems-run, kids-run, slots-open, slots-clear, slots-copy}
-use Rattle.pool.proofs.Node.{node-kid}
-use Rattle.tree.specs.Node.{Node}
+use Rattle.pool.proofs.Store.{run-block, sets-in, set-in, sets-block, set-block, part, block-in, block-put}
+use Rattle.pool.proofs.Slots.{parts}
+use Rattle.pool.proofs.Areas.{elem-area, kid-area, length-parts, area-open, area-clear, area-copy}
+use Rattle.tree.proofs.Standing.{lent, length-word}
 use Rattle.insertion.specs.Nodes.{Takes, TakesKid, Counts, Full, Moves, Blank}
 
--- node words lent from a on
-abbrev pub part : List ℕ → ℕ → List ℕ
-part w a = take (a + nodeWords - a) (drop a w)
-
--- ---- read
-
-module _ {w : List ℕ} {k : ℕ} (m : Node w k) (a : ℕ) (ea : a ≡ start k) where
-  pub lent : part w a ≡ nodeBlock (m .size) (m .elems) (m .kids)
-  lent = block-in w a k ea ∙ m .stored .is
-
-  pub lent-long : length (part w a) ≡ nodeWords
-  lent-long = rw lent (length-nodeBlock (m .size) (m .elems) (m .kids) (m .few-elems) (m .few-kids))
-
-  pub lent-count : getD (part w a) 0 0 ≡ length (m .elems)
-  unfolding nodeBlock
-  lent-count = rw lent
-
-  pub lent-length : getD (part w a) 1 0 ≡ m .size
-  unfolding nodeBlock
-  lent-length = rw lent
-
-  -- the same word, read in the pool
-  pub length-word : getD w (a + 1) 0 ≡ m .size
-  unfolding nodeBlock
-  length-word = rw (ea, ← (block-word w k 1 (omega arith)), m .stored .is)
-
-  pub lent-full : (r : Bool) → r ≡ leb 31 (getD (part w a) 0 0) → r ≡ leb 31 (length (m .elems))
-  lent-full r e = e ∙ rw lent-count
-
-  pub lent-kid : (c j : ℕ) → c < 32 → j ≡ getD (part w a) (33 + c) 0 → j ≡ getD (m .kids) c 0
-  lent-kid c j l e = e ∙ rw lent (node-kid (m .size) (m .elems) (m .kids) (m .few-elems) c l)
-
--- ---- a node's words when one of its lists has changed
-
-module _ (z n : ℕ) (es ks : List ℕ) (le : length es ≤ 31) (lk : length ks ≤ 32) where
-  abbrev words : List ℕ
-  words = parts z n (slots 31 es) (slots 32 ks) 0
-
-  elems-edit : (c : ℕ) (ys xs : List ℕ) → c + length ys ≤ 31 → sets (slots 31 es) c ys ≡ slots 31 xs
-      → sets words (2 + c) ys ≡ parts z n (slots 31 xs) (slots 32 ks) 0
-  elems-edit c ys xs l e =
-      parts-elems z n (slots 31 es) (slots 32 ks) 0 (length-slots 31 es le) c ys l ∙ ap (λ (s : List ℕ). parts z n s (slots 32 ks) 0) e
-
-  kids-edit : (c : ℕ) (ys xs : List ℕ) → c + length ys ≤ 32 → sets (slots 32 ks) c ys ≡ slots 32 xs
-      → sets words (33 + c) ys ≡ parts z n (slots 31 es) (slots 32 xs) 0
-  kids-edit c ys xs l e =
-      parts-kids z n (slots 31 es) (slots 32 ks) 0 (length-slots 31 es le) c ys (rw (length-slots 32 ks lk) l)
-      ∙ ap (λ (s : List ℕ). parts z n (slots 31 es) s 0) e
-
-  some-elems : (c r : ℕ) → c + r ≤ 31 → run words (2 + c) r ≡ run (slots 31 es) c r
-  some-elems c r l = elems-run z n (slots 31 es) (slots 32 ks) 0 (length-slots 31 es le) c r l
-
-  some-kids : (c r : ℕ) → c + r ≤ 32 → run words (33 + c) r ≡ run (slots 32 ks) c r
-  some-kids c r l = kids-run z n (slots 31 es) (slots 32 ks) 0 (length-slots 31 es le) c r (rw (length-slots 32 ks lk) l)
-
-  -- x put among the elements, and j among the children
-  open-elems : (i r x : ℕ) → i + r ≡ length es → length es < 31
-      → sets words (2 + i) (x ∷ run words (2 + i) r) ≡ parts z n (slots 31 (insertAt es i x)) (slots 32 ks) 0
-  open-elems i r x e l =
-      let q = run-length (slots 31 es) i r (omega (arith, length-slots 31 es le)) in
-      rw (some-elems i r (omega arith))
-      (elems-edit i (x ∷ run (slots 31 es) i r) (insertAt es i x) (omega arith) (slots-open 31 es i r e x l))
-
-  open-kids : (c r j : ℕ) → c + r ≡ length ks → length ks < 32
-      → sets words (33 + c) (j ∷ run words (33 + c) r) ≡ parts z n (slots 31 es) (slots 32 (insertAt ks c j)) 0
-  open-kids c r j e l =
-      let q = run-length (slots 32 ks) c r (omega (arith, length-slots 32 ks lk)) in
-      rw (some-kids c r (omega arith))
-      (kids-edit c (j ∷ run (slots 32 ks) c r) (insertAt ks c j) (omega arith) (slots-open 32 ks c r e j l))
+-- ---- a node's words when its lists have changed
 
 -- with the count of the new list it is a node
 counted : (z n : ℕ) (es ks : List ℕ) → length es ≡ z → parts z n (slots 31 es) (slots 32 ks) 0 ≡ nodeBlock n es ks
 unfolding nodeBlock
 counted z n es ks e = ap (λ (c : ℕ). parts c n (slots 31 es) (slots 32 ks) 0) (sym e)
 
-length-parts : (z n : ℕ) (es ks : List ℕ) → length es ≤ 31 → length ks ≤ 32 → length (parts z n (slots 31 es) (slots 32 ks) 0) ≡ nodeWords
-unfolding nodeBlock
-length-parts z n es ks le lk = length-nodeBlock n es ks le lk
+long : (z n : ℕ) (es ks : List ℕ) → length es ≤ 31 → length ks ≤ 32 → length (parts z n (slots 31 es) (slots 32 ks) 0) ≡ nodeWords
+long z n es ks le lk = length-parts z n (slots 31 es) (slots 32 ks) (length-slots 31 es le) (length-slots 32 ks lk)
 
 -- ---- the pool when a node that was lent came back
 
@@ -120,8 +48,8 @@ module _ {w : List ℕ} {k i : ℕ} (s : Takes w k i) (a : ℕ) (ea : a ≡ star
       let m = s .node in
       let es : List ℕ = m .elems in
       let l = length-insertAt es i x (s .place) in
-      let r : ℕ = 2 + length es - (2 + i) in
-      let o = open-elems (length es) (m .size) es (m .kids) (m .few-elems) (m .few-kids) i r x (omega arith) (s .room) in
+      let E = elem-area (length es) (m .size) (slots 32 (m .kids)) in
+      let o = area-open E es (m .few-elems) i (2 + length es) x (s .place) (s .room) refl in
       rw (e, lent m a ea)
       (back w a k ea (m .stored .inside) (m .size + 1) (insertAt es i x) (m .kids)
       (ap (λ (q : List ℕ). set (set q 0 (length es + 1)) 1 (m .size + 1)) o
@@ -142,9 +70,10 @@ module _ {w : List ℕ} {k c : ℕ} (s : TakesKid w k c) (a : ℕ) (ea : a ≡ s
       let n : ℕ = length es in
       let l = length-insertAt es c x (s .place) in
       let lk = length-insertAt ks (c + 1) j (omega (arith, s .place, s .one-more)) in
-      let o = open-elems n (m .size) es ks (m .few-elems) (m .few-kids) c (2 + n - (2 + c)) x (omega arith) (s .room) in
-      let u = open-kids n (m .size) (insertAt es c x) ks (omega arith) (m .few-kids) (c + 1) (33 + (n + 1) - (33 + (c + 1))) j
-      (omega (arith, s .place, s .one-more)) (omega (arith, s .room, s .one-more)) in
+      let le : length (slots 31 (insertAt es c x)) ≡ 31 = length-slots 31 (insertAt es c x) (omega (arith, s .room)) in
+      let o = area-open (elem-area n (m .size) (slots 32 ks)) es (m .few-elems) c (2 + n) x (s .place) (s .room) refl in
+      let u = area-open (kid-area n (m .size) (slots 31 (insertAt es c x)) le) ks (m .few-kids) (c + 1) (33 + (n + 1)) j
+      (omega (arith, s .place, s .one-more)) (omega (arith, s .room, s .one-more)) (omega (arith, s .one-more)) in
       rw (eq, ep, lent m a ea, o)
       (back w a k ea (m .stored .inside) (m .size) (insertAt es c x) (insertAt ks (c + 1) j)
       (ap (λ (q : List ℕ). set q 0 (n + 1)) u ∙ counted (n + 1) (m .size) (insertAt es c x) (insertAt ks (c + 1) j) l)
@@ -154,8 +83,8 @@ pub lengthened : {w : List ℕ} {k : ℕ} (s : Counts w k) (a : ℕ) → a ≡ s
     → set w (a + 1) (getD w (a + 1) 0 + 1) ≡ withBlock w k (nodeBlock (s .node .size + 1) (s .node .elems) (s .node .kids))
 unfolding nodeBlock
 lengthened {w} {k} s a ea =
-    let S = s .node .stored in
-    rw (ea, ← (block-word w k 1 (omega arith)), set-block w k (S .inside) 1 (getD (block w k) 1 0 + 1) (omega arith), S .is)
+    let m = s .node in
+    rw (length-word m a ea, ea, set-block w k (m .stored .inside) 1 (m .size + 1) (omega arith), m .stored .is)
 
 module _ {w : List ℕ} {k : ℕ} (s : Full w k) (a : ℕ) (ea : a ≡ start k) where
   pub lower-kept : (n : ℕ) (p q : List ℕ) → p ≡ sets (part w a) 17 (replicate 16 0) → q ≡ sets p 49 (replicate 16 0)
@@ -168,10 +97,9 @@ module _ {w : List ℕ} {k : ℕ} (s : Full w k) (a : ℕ) (ea : a ≡ start k) 
       let ks : List ℕ = m .kids in
       let zs : List ℕ = replicate 16 0 in
       let l : length (take 15 es) ≡ 15 = omega (arith, length-take 15 es, s .full) in
-      let o = elems-edit (length es) (m .size) es ks (m .few-elems) (m .few-kids) 15 zs (take 15 es) (omega arith)
-      (slots-clear 31 es 15 (omega arith) (m .few-elems)) in
-      let u = kids-edit (length es) (m .size) (take 15 es) ks (omega arith) (m .few-kids) 16 zs (take 16 ks) (omega arith)
-      (slots-clear 32 ks 16 (omega arith) (m .few-kids)) in
+      let o = area-clear (elem-area (length es) (m .size) (slots 32 ks)) es (m .few-elems) 15 (omega arith) in
+      let u = area-clear (kid-area (length es) (m .size) (slots 31 (take 15 es)) (length-slots 31 (take 15 es) (omega arith))) ks (m .few-kids) 16
+      (omega arith) in
       let cleared = eq ∙ ap (λ (r : List ℕ). sets r 49 zs) (ep ∙ ap (λ (r : List ℕ). sets r 17 zs) (lent m a ea) ∙ o) ∙ u in
       back w a k ea (m .stored .inside) n (take 15 es) (take 16 ks)
       (ap (λ (r : List ℕ). set (set r 0 15) 1 n) cleared ∙ counted 15 n (take 15 es) (take 16 ks) l)
@@ -185,7 +113,7 @@ above-put {w} {k} S a ea n child =
 
 -- ---- the upper half moved to a blank node
 
-pub moves-apart : {w : List ℕ} {k j : ℕ} → Moves w k j → k ≢ j
+moves-apart : {w : List ℕ} {k j : ℕ} → Moves w k j → k ≢ j
 unfolding nodeBlock
 moves-apart {w} {k} {j} s e =
     let b : getD (block w k) 0 0 ≡ length (s .node .elems) = rw (s .node .stored .is) in
@@ -193,14 +121,9 @@ moves-apart {w} {k} {j} s e =
     omega (arith, s .full)
 
 module _ {w : List ℕ} {k j : ℕ} (s : Moves w k j) (a b : ℕ) (ea : a ≡ start k) (eb : b ≡ start j) where
-  -- a run of words of one node lies before or behind one of the other
-  pub runs-apart : (i o n : ℕ) → i + n ≤ nodeWords → o + n ≤ nodeWords → (b + o ≤ a + i) ⊎ (a + i + n ≤ b + o)
-  runs-apart i o n li lo =
-      let some = s .node .stored .inside .some in
-      elim (decLt j k) [
-        | yes l ↦ inl (omega (arith, s .blank .inside .some))
-        | no l ↦ inr (omega (arith, moves-apart s))
-      ]
+  pub halves-apart : (i o n : ℕ) → i + n ≤ nodeWords → o + n ≤ nodeWords → (b + o ≤ a + i) ⊎ (a + i + n ≤ b + o)
+  halves-apart i o n li lo =
+      runs-apart (s .node .stored .inside) (s .blank .inside) (moves-apart s) (a + i) (b + o) n (omega arith) (omega arith) (omega arith) (omega arith)
 
   pub upper-moved : (n : ℕ) (w₁ w₂ : List ℕ) → w₁ ≡ sets w (b + 2) (run w (a + 18) 15) → w₂ ≡ sets w₁ (b + 33) (run w₁ (a + 49) 16)
       → set (set w₂ (b + 0) 15) (b + 1) n ≡ withBlock w j (nodeBlock n (drop 16 (s .node .elems)) (drop 16 (s .node .kids)))
@@ -214,22 +137,25 @@ module _ {w : List ℕ} {k j : ℕ} (s : Moves w k j) (a b : ℕ) (ea : a ≡ st
       let lk : length (drop 16 ks) ≤ 32 = omega (arith, length-drop 16 ks, m .few-kids) in
       let ys : List ℕ = run (slots 31 es) 16 15 in
       let zs : List ℕ = run (slots 32 ks) 16 16 in
-      let ly : length ys ≡ 15 = run-length (slots 31 es) 16 15 (omega (arith, length-slots 31 es (m .few-elems))) in
-      let lz : length zs ≡ 16 = run-length (slots 32 ks) 16 16 (omega (arith, length-slots 32 ks (m .few-kids))) in
+      let se : length (slots 31 es) ≡ 31 = length-slots 31 es (m .few-elems) in
+      let sd : length (slots 31 (drop 16 es)) ≡ 31 = length-slots 31 (drop 16 es) (omega arith) in
+      let sk : length (slots 32 ks) ≡ 32 = length-slots 32 ks (m .few-kids) in
+      let ly : length ys ≡ 15 = run-length (slots 31 es) 16 15 (omega arith) in
+      let lz : length zs ≡ 16 = run-length (slots 32 ks) 16 16 (omega arith) in
       let B : List ℕ = parts 0 0 (slots 31 (drop 16 es)) (slots 32 []) 0 in
       let C : List ℕ = parts 0 0 (slots 31 (drop 16 es)) (slots 32 (drop 16 ks)) 0 in
-      let lB : length B ≡ nodeWords = length-parts 0 0 (drop 16 es) [] (omega arith) (omega arith) in
-      let lC : length C ≡ nodeWords = length-parts 0 0 (drop 16 es) (drop 16 ks) (omega arith) lk in
+      let lB : length B ≡ nodeWords = long 0 0 (drop 16 es) [] (omega arith) (omega arith) in
+      let lC : length C ≡ nodeWords = long 0 0 (drop 16 es) (drop 16 ks) (omega arith) lk in
       let one : w₁ ≡ withBlock w j B = rw (
         e₁,
         ea,
         eb,
         run-block w k 18 15 (omega arith),
         m .stored .is,
-        some-elems (length es) (m .size) es ks (m .few-elems) (m .few-kids) 16 15 (omega arith),
+        elem-area (length es) (m .size) (slots 32 ks) .reads (slots 31 es) 16 15 se (omega arith),
         sets-block w j I 2 ys (omega arith),
         s .blank .is,
-        elems-edit 0 0 [] [] (omega arith) (omega arith) 0 ys (drop 16 es) (omega arith) (slots-copy 31 es 16 (omega arith) (m .few-elems)),
+        area-copy (elem-area 0 0 (slots 32 [])) es (m .few-elems) 16 (omega arith),
       ) refl in
       let other : block (withBlock w j B) k ≡ nodeBlock (m .size) es ks =
       block-other w j B lB k (m .stored .inside .some) (I .some) (moves-apart s) ∙ m .stored .is in
@@ -240,10 +166,9 @@ module _ {w : List ℕ} {k j : ℕ} (s : Moves w k j) (a b : ℕ) (ea : a ≡ st
         eb,
         run-block (withBlock w j B) k 49 16 (omega arith),
         other,
-        some-kids (length es) (m .size) es ks (m .few-elems) (m .few-kids) 16 16 (omega arith),
+        kid-area (length es) (m .size) (slots 31 es) se .reads (slots 32 ks) 16 16 sk (omega arith),
         sets-in w j B lB 33 zs (omega arith),
-        kids-edit 0 0 (drop 16 es) [] (omega arith) (omega arith) 0 zs (drop 16 ks) (omega arith)
-            (slots-copy 32 ks 16 (omega arith) (m .few-kids)),
+        area-copy (kid-area 0 0 (slots 31 (drop 16 es)) sd) ks (m .few-kids) 16 (omega arith),
       ) refl in
       rw (two, eb, set-in w j C lC 0 15 (omega arith), set-in w j (set C 0 15) lC 1 n (omega arith))
       (ap (withBlock w j) (counted 15 n (drop 16 es) (drop 16 ks) le))

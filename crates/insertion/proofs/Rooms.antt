@@ -1,24 +1,22 @@
 -- The steps of an insertion, in the model: the node in which there is room, what is inserted through it, and a full root raised.
-use mathlib.Core.Path.{_≡_, refl, ap, _∙_}
+use mathlib.Core.Path.{_≡_, refl, ap}
 use mathlib.Core.Bool.{Bool, true, false}
 use mathlib.Core.List.{List, [], _∷_}
 use Prim.Native.Nat.{ℕ, zero, suc, _+_, _≤_, _<_}
 use native.Mathlib.Omega.{arith}
 use borrow.Author.Tests.{lt-leb}
-use lib.ListN.{length, getD, take, drop}
-use lib.Seq.{set-split, map-set-same}
-use Rattle.lists.specs.Lists.{sum, count}
-use Rattle.lists.proofs.All.{nil, cons}
-use Rattle.lists.proofs.Counts.{count-append}
+use lib.ListN.{length, getD, drop}
+use lib.Seq.{map-set-same}
+use Rattle.lists.specs.Lists.{sum}
 use Rattle.lists.proofs.Edits.{length-insertAt}
-use Rattle.lists.proofs.Sums.{total-append, total-at}
-use Rattle.model.specs.Tree.{Tree, kid, none, size, flat, find, before, withKid, Root, bare, rooted, Bag}
+use Rattle.lists.proofs.Sums.{total-set}
+use Rattle.model.specs.Tree.{Tree, kid, none, size, flat, find, withKid}
 use Rattle.model.specs.Fit.{Fit}
-use Rattle.model.specs.Insert.{isFull, splitChild, Grown, insertNonFull, neededBelow, aboveRoot, grownBag, bagInsert}
-use Rattle.model.proofs.Nodes.{node, held, held-inner, fits, child, most, flat-length, Rearranged}
-use Rattle.model.proofs.Find.{place, found, into, step}
-use Rattle.model.proofs.Split.{Split, split-law}
-use Rattle.model.proofs.Insert.{full, not-full, Inserted}
+use Rattle.model.specs.Insert.{isFull, splitChild, Grown, insertNonFull, neededBelow}
+use Rattle.model.proofs.Nodes.{child, most, flat-length, Rearranged}
+use Rattle.model.proofs.Find.{into, step}
+use Rattle.model.proofs.Split.{split-law}
+use Rattle.model.proofs.Insert.{full, not-full, Inserted, through, after-split}
 use Rattle.pool.specs.Layout.{nodeBlock, idOf, kidIds, rootBlock}
 use Rattle.insertion.specs.Steps.{roomed}
 
@@ -44,10 +42,7 @@ insert-size {h} {t} {i} {x} {r = r} F l I =
 module _ (h : ℕ) (t : Tree (suc h)) (c : ℕ) (k : Tree h) (l : c < length (t .kids)) where
   with-size : size h k ≡ size h (kid h t c) + 1 → size (suc h) (withKid h t c k) ≡ size (suc h) t + 1
   unfolding size sum
-  with-size e =
-      let K : List (Tree h) = t .kids in
-      rw (set-split K c k l)
-      (omega (arith, total-append (size h) (take c K) (k ∷ drop (suc c) K), total-at (size h) K c (none h) l))
+  with-size e = omega (arith, total-set (size h) (t .kids) c (none h) k l)
 
   -- the words of the node then
   pub with-block : size h k ≡ size h (kid h t c) + 1 → k .id ≡ kid h t c .id
@@ -90,7 +85,7 @@ module _ (h : ℕ) (t : Tree (suc h)) (i : ℕ) where
         least = omega arith;
         room = not-full h (into h t i) e;
         need = omega (arith, rw e at n);
-        insert = λ x. unfold insertNonFull in rw (e, insertNonFull) refl;
+        insert = λ x. through h t i x f e;
       })
       go true e [] n = absurd (omega (arith, rw e at n))
       go true e (a ∷ f) n =
@@ -104,53 +99,5 @@ module _ (h : ℕ) (t : Tree (suc h)) (i : ℕ) where
             least = omega (arith, S .elems);
             room = S .goes .room;
             need = omega (arith, rw e at n, rw q at (S .goes .need));
-            insert = λ x. unfold insertNonFull in rw (e, insertNonFull) refl;
+            insert = λ x. after-split h t i x a f e;
           })
-
--- ---- a full root under a new one, and split
-
-pub record Lifted (h : ℕ) (t : Tree h) (i : ℕ) (f : List ℕ) (s : Tree (suc h)) : Type 0 where
-  pub id : s .id ≡ getD f 0 0
-  pub fit : Fit (suc h) s
-  pub sized : size (suc h) s ≡ size h t
-  pub elems : length (s .elems) ≡ 1
-  pub need : neededBelow (suc h) s i ≡ neededBelow h t i
-  pub nodes : (k : ℕ) → held (suc h) k s + count k (drop 2 f) ≡ held h k t + count k f
-
-pub lift-law : (h : ℕ) (t : Tree h) → Fit h t → length (t .elems) ≡ 31 → (i : ℕ) → i ≤ size h t → (f : List ℕ) → 2 ≤ length f
-    → Lifted h t i f (aboveRoot h t f)
-unfolding splitChild size sum before
-lift-law h t F n i l [] m = absurd (omega arith)
-lift-law h t F n i l (a ∷ []) m = absurd (omega arith)
-lift-law h t F n i l (a ∷ (b ∷ f)) m =
-    let o : Tree (suc h) = node a [] (t ∷ []) in
-    let e : find h o i ≡ place 0 i = found h o i 0 i (omega arith) l (omega arith) in
-    let C = cons (child h t F (omega arith)) nil in
-    let O : Fit (suc h) o = fits (suc h) o (record { one-more = omega arith; children = C }) (omega arith) in
-    let S : Split h o i b f (splitChild h o 0 b) = rw e at (split-law h o O (omega arith) i b f (omega arith) (rw e n)) in
-    record {
-      id = refl;
-      fit = S .same .fit;
-      sized = omega (arith, S .same .sized);
-      elems = S .elems;
-      need = rw e at (S .goes .need);
-      nodes = λ k. omega (arith, S .same .nodes k, held-inner h k o, count-append k (a ∷ []) (b ∷ f));
-    }
-
--- ---- insertion into a bag, by what its root is
-
-module _ (b : Bag) (i x : ℕ) where
-  pub bag-bare : b .root ≡ bare
-      → bagInsert b i x ≡ grownBag 0 (record { tree = node (getD (b .free) 0 0) (x ∷ []) []; free = drop 1 (b .free) })
-  unfolding bagInsert
-  bag-bare e = ap (λ (r : Root). bagInsert (record { root = r; free = b .free }) i x) e
-
-  module _ (h : ℕ) (t : Tree h) (e : b .root ≡ rooted h t) where
-    pub bag-room : isFull h t ≡ false → bagInsert b i x ≡ grownBag h (insertNonFull h t i x (b .free))
-    unfolding bagInsert
-    bag-room q = ap (λ (r : Root). bagInsert (record { root = r; free = b .free }) i x) e ∙ rw (q, bagInsert) refl
-
-    pub bag-full : isFull h t ≡ true
-        → bagInsert b i x ≡ grownBag (suc h) (insertNonFull (suc h) (aboveRoot h t (b .free)) i x (drop 2 (b .free)))
-    unfolding bagInsert
-    bag-full q = ap (λ (r : Root). bagInsert (record { root = r; free = b .free }) i x) e ∙ rw (q, bagInsert) refl

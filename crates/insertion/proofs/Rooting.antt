@@ -9,68 +9,44 @@ use lib.ListN.{length, getD, drop, length-drop}
 use lib.Seq.{getD-drop, drop-drop}
 use Rattle.lists.specs.Lists.{sum, count}
 use Rattle.lists.proofs.All.{nil, cons, all-at}
-use Rattle.lists.proofs.Counts.{count-append}
-use Rattle.model.specs.Tree.{Tree, none, size, ids, Root, bare, rooted, Bag, listOf, rootIds, levelsOf}
+use Rattle.lists.proofs.Counts.{count-append, count-first, one-same}
+use Rattle.model.specs.Tree.{Tree, none, size, ids, Root}
 use Rattle.model.specs.Insert.{isFull, splitChild, needed}
-use Rattle.model.proofs.Nodes.{node, held, held-inner, fits, child, flat-length}
+use Rattle.model.proofs.Nodes.{node, held, held-inner, fits, child}
 use Rattle.model.proofs.Insert.{full}
-use Rattle.pool.specs.Layout.{withBlock, nodeBlock, kidIds, rootBlock, rootId}
-use Rattle.pool.specs.Parts.{Inside, At, RootAt, lengthAt}
+use Rattle.pool.specs.Layout.{withBlock, nodeBlock, kidIds, rootBlock}
+use Rattle.pool.specs.Parts.{Inside, At, lengthAt}
 use Rattle.pool.specs.Chain.{Free, Took}
 use Rattle.pool.proofs.Blocks.{length-nodeBlock}
 use Rattle.pool.proofs.Node.{at-length}
-use Rattle.pool.proofs.Frame.{at-untouched, untouched-both}
+use Rattle.pool.proofs.Frame.{at-untouched, chain-untouched, untouched-more, untouched-both, Wrote, wrote, stored-same}
 use Rattle.tree.specs.declared.Known.{Known}
 use Rattle.tree.specs.Node.{Node}
+use Rattle.tree.specs.Stands.{Owns, Reshaped}
 use Rattle.tree.proofs.Standing.{nodeOf}
-use Rattle.tree.proofs.Edits.{first-free, count-same, stored-same, chain-untouched, untouched-more, Wrote, wrote}
-use Rattle.tree.specs.Stands.{Owns, Reshaped, knownOf, BagStands}
+use Rattle.tree.proofs.Edits.{owns-stands}
+use Rattle.tree.proofs.Rooting.{Rooted, is-rooted, is-bare, not-bare}
 use Rattle.insertion.specs.Ready.{SplitReady, BagReady}
 use Rattle.insertion.specs.Steps.{Upto, RaiseReady, Raised}
 use Rattle.insertion.proofs.Needing.{Told, Needs, few-below}
 
 -- ---- the root as the caller knows it
 
--- the list has a root, with its tree
-pub record Rooted (w : List ℕ) (known : Known) (index : ℕ) (b : Bag) : Type 0 where
-  pub tree : Tree (known .levels)
-  pub is : b .root ≡ rooted (known .levels) tree
-  pub here : tree .id ≡ known .root
-  pub owns : Owns w (known .levels) tree (b .free)
-  pub some : 1 ≤ length (tree .elems)
-  pub upto : index ≤ size (known .levels) tree
-
 module _ {w : List ℕ} {known : Known} {index : ℕ} (b : BagReady w known index) where
   pub free-count : known .free ≡ length (b .bag .free)
   free-count = ap (λ (k : Known). k .free) (b .is)
 
-  pub is-bare : known .root ≡ 0 → b .bag .root ≡ bare
-  unfolding rootId
-  is-bare e = go (b .bag .root) (b .stands .tree) (sym (ap (λ (k : Known). k .root) (b .is)) ∙ e)
-    where
-      go : (r : Root) → RootAt w r → rootId r ≡ 0 → r ≡ bare
-      go bare A z = refl
-      go (rooted h t) A z = absurd (omega (arith, A .here .inside .some))
+  module _ (n : known .root ≢ 0) where
+    pub root-of : Rooted w known (b .bag)
+    root-of = is-rooted (b .stands) (b .is) (not-bare (b .stands) (b .is) n)
 
-  pub is-rooted : known .root ≢ 0 → Rooted w known index (b .bag)
-  unfolding rootId levelsOf listOf rootIds
-  is-rooted ne = go (b .bag .root) (b .bag .free) (b .stands) (b .upto) (b .is) ne
-    where
-      go : (r : Root) (f : List ℕ) → BagStands w (record { root = r; free = f }) → index ≤ length (listOf r)
-          → known ≡ knownOf (record { root = r; free = f }) → known .root ≢ 0 → Rooted w known index (record { root = r; free = f })
-      go bare f S l e ne = absurd (ne (ap (λ (k : Known). k .root) e))
-      go (rooted h t) f S l e ne =
-          let n = flat-length h t (S .fit .fit) in
-          subst (λ (k : Known). Rooted w k index (record { root = rooted h t; free = f })) (sym e) (record {
-            tree = t;
-            is = refl;
-            here = refl;
-            owns = record { at = S .tree; fit = S .fit .fit; chain = S .chain; once = S .once; small = omega (arith, S .small) };
-            some = S .fit .some;
-            upto = omega arith;
-          })
+    pub index-upto : index ≤ size (known .levels) (root-of .tree)
+    index-upto = omega (arith, b .upto, root-of .long)
 
-module _ {w : List ℕ} {known : Known} {index : ℕ} {b : Bag} (R : Rooted w known index b) where
+module _ {w : List ℕ} {known : Known} {index : ℕ} (b : BagReady w known index) (ne : known .root ≢ 0) where
+  abbrev R : Rooted w known (b .bag)
+  R = root-of b ne
+
   abbrev h : ℕ
   h = known .levels
 
@@ -78,17 +54,7 @@ module _ {w : List ℕ} {known : Known} {index : ℕ} {b : Bag} (R : Rooted w kn
   t = R .tree
 
   abbrev pub root-upto : Upto w (known .levels) (known .root) index
-  root-upto = record {
-    stands = record {
-      tree = t;
-      here = R .here;
-      at = R .owns .at;
-      fit = record { some = R .some; fit = R .owns .fit };
-      once = λ k. omega (arith, R .owns .once k);
-      small = R .owns .small;
-    };
-    upto = R .upto;
-  }
+  root-upto = record { stands = owns-stands (R .owns) (R .here) (R .some); upto = index-upto b ne }
 
   abbrev pub root-node : Node w (known .root)
   root-node = nodeOf h t (R .here) (R .owns .at) (R .owns .fit)
@@ -97,24 +63,24 @@ module _ {w : List ℕ} {known : Known} {index : ℕ} {b : Bag} (R : Rooted w kn
 
   module _ (n : ℕ) (N : Needs w (known .levels) (known .root) index n) where
     pub root-few : n < 2 ^ 32
-    root-few = rw (N root-upto) (few-below h t (record { some = R .some; fit = R .owns .fit }) (R .owns .small) index (R .upto))
+    root-few = rw (N root-upto) (few-below h t (record { some = R .some; fit = R .owns .fit }) (R .owns .small) index (index-upto b ne))
 
     module _ (a : Bool) (A : Told w (known .root) a) where
       full-root : isFull h t ≡ a
       unfolding isFull
       full-root = sym (A root-node)
 
-      pub needs-two : a ≡ true → 2 + n ≡ needed (b .root) index
+      pub needs-two : a ≡ true → 2 + n ≡ needed (b .bag .root) index
       unfolding needed
       needs-two e = ap (λ (m : ℕ). 2 + m) (N root-upto) ∙ sym (ap (λ (r : Root). needed r index) (R .is) ∙ rw (full-root ∙ e) refl)
 
-      pub needs-none : a ≡ false → n ≡ needed (b .root) index
+      pub needs-none : a ≡ false → n ≡ needed (b .bag .root) index
       unfolding needed
       needs-none e = N root-upto ∙ sym (ap (λ (r : Root). needed r index) (R .is) ∙ rw (full-root ∙ e) (omega arith))
 
 pub needs-one : {w : List ℕ} {known : Known} {index : ℕ} → known .root ≡ 0 → (b : BagReady w known index) → 1 ≡ needed (b .bag .root) index
 unfolding needed
-needs-one {index = index} e b = sym (ap (λ (r : Root). needed r index) (is-bare b e))
+needs-one {index = index} e b = sym (ap (λ (r : Root). needed r index) (is-bare (b .stands) (b .is) e))
 
 -- ---- a full root goes under a new one
 
@@ -139,8 +105,8 @@ module _ {w : List ℕ} {old : ℕ} (S : RaiseReady w old) where
     T = et f₁ old-free
 
     -- the root, the tree and the other free nodes have no node twice
-    pub once : (k : ℕ) → count k (root ∷ []) + held h₁ k t₁ + count k (drop 1 f₁) ≤ 1
-    once k = omega (arith, S .owns .once k, first-free k f₁ (omega (arith, S .two)), count-same k (T .first))
+    once : (k : ℕ) → count k (root ∷ []) + held h₁ k t₁ + count k (drop 1 f₁) ≤ 1
+    once k = omega (arith, S .owns .once k, count-first k f₁ (omega (arith, S .two)), one-same k (T .first))
 
     module _ (w₂ : List ℕ) (e₂ : w₂ ≡ withBlock w₁ root (nodeBlock n [] (old ∷ []))) where
       abbrev o : Tree (suc h₁)
@@ -204,8 +170,8 @@ module _ {w : List ℕ} {old : ℕ} (S : RaiseReady w old) where
             omega (
               arith,
               count-append k (ids h₁ t₁) f₁,
-              first-free k f₁ (omega (arith, S .two)),
-              count-same k (T .first),
+              count-first k f₁ (omega (arith, S .two)),
+              one-same k (T .first),
               count-append k (root ∷ []) (root ∷ []),
               count-append k ((root ∷ []) ++ (root ∷ [])) (ids (suc h₁) o ++ drop 1 f₁),
               count-append k (ids (suc h₁) o) (drop 1 f₁),

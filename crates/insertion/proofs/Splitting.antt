@@ -4,37 +4,36 @@ use mathlib.Core.List.{List, [], _∷_, map-append, append-assoc}
 use Prim.Native.Nat.{ℕ, zero, suc, _+_, _≤_, _<_}
 use native.Mathlib.Numerals.{add-one}
 use native.Mathlib.Omega.{arith}
-use lib.ListN.{length, getD, take, drop, length-take, length-drop, length-map, List·getD-map}
+use lib.ListN.{length, getD, take, drop, length-take, length-drop}
 use lib.Seq.{take-suc}
 use Rattle.lists.specs.Lists.{count, insertAt}
-use Rattle.lists.proofs.All.{All, cons, all-append, all-take, all-drop, all-at, all-of}
-use Rattle.lists.proofs.Counts.{count-append, count-self}
-use Rattle.lists.proofs.Edits.{length-insertAt}
+use Rattle.lists.proofs.All.{nil, cons, all-take, all-drop}
+use Rattle.lists.proofs.Counts.{count-self, count-first, one-same}
+use Rattle.lists.proofs.Edits.{length-insertAt, map-take, map-drop}
 use Rattle.lists.proofs.Sums.{total, total-at}
-use Rattle.model.specs.Tree.{Tree, kid, none, size, ids, find, before}
+use Rattle.model.specs.Tree.{Tree, kid, none, size, find, before}
 use Rattle.model.specs.Fit.{Fit}
 use Rattle.model.specs.Insert.{leftHalf, rightHalf, splitChild}
-use Rattle.model.proofs.Nodes.{held, held-id, Rearranged, parts-held}
+use Rattle.model.proofs.Nodes.{held, held-id, kids-held, Rearranged, parts-held}
 use Rattle.model.proofs.Find.{place, found}
 use Rattle.model.proofs.Split.{split-law}
 use Rattle.pool.specs.Layout.{withBlock, nodeBlock, idOf, kidIds, rootBlock}
-use Rattle.pool.specs.Parts.{At, KidsAt, lengthAt}
+use Rattle.pool.specs.Parts.{At, lengthAt}
 use Rattle.pool.specs.Chain.{Untouched, Free, Took}
 use Rattle.pool.proofs.Blocks.{length-nodeBlock, most-kids}
-use Rattle.pool.proofs.Frame.{untouched-both}
+use Rattle.pool.proofs.Frame.{stored-untouched, chain-untouched, untouched-both, Wrote, wrote, stored-same}
 use Rattle.tree.specs.Node.{Node}
-use Rattle.tree.specs.Lookup.{HasElement}
+use Rattle.tree.specs.Lookup.{HasElement, HasKid}
 use Rattle.tree.specs.Stands.{Owns, Reshaped}
 use Rattle.tree.proofs.Standing.{nodeOf}
-use Rattle.tree.proofs.Edits.{map-take, map-drop, kids-held, first-free, count-same, stored-same, stored-untouched, node-untouched}
-use Rattle.tree.proofs.Edits.{chain-untouched, untouched-more, kids-untouched, below-untouched, Wrote, wrote, owns-kid}
-use Rattle.insertion.specs.Nodes.{TakesKid, HasKid, Summed, Full, Moves}
+use Rattle.tree.proofs.Edits.{each-kid, tree-at, node-untouched, kids-untouched, kids-reshaped, owns-kid, kid-count, has-kid, child-is}
+use Rattle.insertion.specs.Nodes.{TakesKid, Summed, Full, Moves}
 use Rattle.insertion.specs.Ready.{SplitReady}
 use Rattle.insertion.proofs.Halves.{left-length, right-length, summed}
 
 -- ---- the model: any full child may be split, its right half into the first free node
 
-pub split-same : (h : ℕ) (t : Tree (suc h)) → Fit (suc h) t → length (t .elems) < 31 → (c : ℕ) → c < length (t .kids)
+split-same : (h : ℕ) (t : Tree (suc h)) → Fit (suc h) t → length (t .elems) < 31 → (c : ℕ) → c < length (t .kids)
     → length (kid h t c .elems) ≡ 31 → (f : List ℕ) → 0 < length f → Rearranged (suc h) t f (splitChild h t c (getD f 0 0)) (drop 1 f)
 unfolding size before
 split-same h t F r c l full [] m = absurd (omega arith)
@@ -84,23 +83,6 @@ half-block : (h : ℕ) (t : Tree h) (n : ℕ) (ks : List ℕ) → n ≡ size h t
 unfolding rootBlock
 half-block h t n ks e d = ap₂ (λ (m : ℕ) (is : List ℕ). nodeBlock m (t .elems) is) e (sym d)
 
--- some of the children that stand
-left-kids : (w : List ℕ) (h : ℕ) (t : Tree h) → At w h t → KidsAt w h (leftHalf t .kids)
-left-kids w zero t A = tt
-left-kids w (suc h) t A = all-at {P = At w h} (none h) (all-take 16 (all-of (none h) (t .kids) (A .each)))
-
-right-kids : (w : List ℕ) (h k : ℕ) (t : Tree h) → At w h t → KidsAt w h (rightHalf k t .kids)
-right-kids w zero k t A = tt
-right-kids w (suc h) k t A = all-at {P = At w h} (none h) (all-drop 16 (all-of (none h) (t .kids) (A .each)))
-
-pub kid-count : (h : ℕ) (t : Tree (suc h)) → length (kidIds (suc h) t) ≡ length (t .kids)
-unfolding kidIds
-kid-count h t = length-map (t .kids) (idOf h)
-
-kid-id : (h : ℕ) (t : Tree (suc h)) (c : ℕ) → getD (kidIds (suc h) t) c 0 ≡ kid h t c .id
-unfolding kidIds
-kid-id h t c = List·getD-map (idOf h) (t .kids) c (none h)
-
 -- ---- the steps
 
 module _ {w : List ℕ} {id c : ℕ} (S : SplitReady w id c) where
@@ -120,17 +102,14 @@ module _ {w : List ℕ} {id c : ℕ} (S : SplitReady w id c) where
   O = owns-kid (S .owns) c (S .place)
 
   abbrev pub has-child : HasKid w id c
-  has-child = record {
-    node = nodeOf (suc h) t (S .here) (S .owns .at) (S .owns .fit);
-    below = omega (arith, S .place, kid-count h t);
-  }
+  has-child = has-kid (S .owns) (S .here) (S .place)
 
   pub has-free : Free w f
   has-free = record { chain = S .owns .chain; once = λ k. omega (arith, S .owns .once k); some = S .some }
 
   module _ (child : ℕ) (ec : (s : HasKid w id c) → child ≡ getD (s .node .kids) c 0) where
     pub is : K .id ≡ child
-    is = sym (ec has-child ∙ kid-id h t c)
+    is = child-is (S .owns) (S .here) (S .place) child ec
 
     abbrev node : Node w child
     node = nodeOf h K is (O .at) (O .fit)
@@ -146,7 +125,7 @@ module _ {w : List ℕ} {id c : ℕ} (S : SplitReady w id c) where
       T = et f has-free
 
       -- the node, its children with all below them, the sibling and the other free nodes have no node twice
-      pub once : (k : ℕ) → count k (id ∷ [])
+      once : (k : ℕ) → count k (id ∷ [])
           + (total (held h k) (take c (t .kids)) + (held h k K + total (held h k) (drop (suc c) (t .kids))))
           + (count k (sibling ∷ []) + count k (drop 1 f)) ≤ 1
       once k =
@@ -154,13 +133,13 @@ module _ {w : List ℕ} {id c : ℕ} (S : SplitReady w id c) where
             arith,
             S .owns .once k,
             kids-held h k t c (S .place),
-            first-free k f (S .some),
-            count-same k (S .here),
-            count-same k (T .first),
+            count-first k f (S .some),
+            one-same k (S .here),
+            one-same k (T .first),
           )
 
-      pub child-held : (k : ℕ) → count k (child ∷ []) ≤ held h k K
-      child-held k = omega (arith, count-same k is, held-id h k K)
+      child-held : (k : ℕ) → count k (child ∷ []) ≤ held h k K
+      child-held k = omega (arith, one-same k is, held-id h k K)
 
       -- neither the node nor the child is the sibling, nor are they one
       pub apart₁ : count child (sibling ∷ []) ≡ 0
@@ -258,53 +237,43 @@ module _ {w : List ℕ} {id c : ℕ} (S : SplitReady w id c) where
 
               at-left : At w₄ h (leftHalf K)
               at-left =
-                  below-untouched U h (leftHalf K) (left-kids w h K (O .at))
-                  (λ k b. omega (arith, counts k, once k, child-held k, halves k, held-id h k (rightHalf sibling K), count-same k is))
-                  (stored-same is (half-block h (leftHalf K) l (take 16 (kidIds h K)) long-left (left-ids h K))
-                  (stored-untouched (W₄ .untouched) (omega (arith, once child, child-held child, count-self child [])) (W₃ .stored)))
+                  tree-at h (leftHalf K) is (half-block h (leftHalf K) l (take 16 (kidIds h K)) long-left (left-ids h K))
+                  (stored-untouched (W₄ .untouched) (omega (arith, once child, child-held child, count-self child [])) (W₃ .stored))
+                  (kids-untouched U h (leftHalf K)
+                  (λ k b. omega (arith, counts k, once k, child-held k, halves k, held-id h k (rightHalf sibling K), one-same k is))
+                  (all-take 16 (each-kid w h (O .at .each))))
 
               at-right : At w₄ h (rightHalf sibling K)
               at-right =
                   let z = once sibling in
                   let d = child-held sibling in
                   let o = count-self sibling [] in
-                  below-untouched U h (rightHalf sibling K) (right-kids w h sibling K (O .at))
-                  (λ k b. omega (arith, counts k, once k, child-held k, halves k, held-id h k (leftHalf K), count-same k is))
-                  (stored-same refl (half-block h (rightHalf sibling K) r (drop 16 (kidIds h K)) long-right (right-ids h sibling K))
-                  (stored-untouched (W₄ .untouched) (omega arith) (stored-untouched (W₃ .untouched) (omega arith) (W₂ .stored))))
+                  tree-at h (rightHalf sibling K) refl (half-block h (rightHalf sibling K) r (drop 16 (kidIds h K)) long-right (right-ids h sibling K))
+                  (stored-untouched (W₄ .untouched) (omega arith) (stored-untouched (W₃ .untouched) (omega arith) (W₂ .stored)))
+                  (kids-untouched U h (rightHalf sibling K)
+                  (λ k b. omega (arith, counts k, once k, child-held k, halves k, held-id h k (leftHalf K), one-same k is))
+                  (all-drop 16 (each-kid w h (O .at .each))))
 
               same : Rearranged (suc h) t f (splitChild h t c (getD f 0 0)) (drop 1 f)
               same = split-same h t (S .owns .fit) (S .room) c (S .place) (S .full) f (S .some)
 
-              at-split : At w₄ (suc h) (splitChild h t c sibling)
-              unfolding splitChild
-              at-split =
-                  let A : All (At w h) (t .kids) = all-of (none h) (t .kids) (S .owns .at .each) in
-                  let N : List (Tree h) = take c (t .kids) in
-                  let M : List (Tree h) = drop (suc c) (t .kids) in
-                  let z : size (suc h) (splitChild h t c sibling) ≡ size (suc h) t = rw (T .first) (same .sized) in
-                  record {
-                    here = stored-same (S .here) (split-block h t c sibling (S .place) m (em has-middle) z) (W₄ .stored);
-                    each = all-at {P = At w₄ h} (none h)
-                        (all-append (kids-untouched U h N (λ k b. omega (arith, counts k, once k, child-held k)) (all-take c A))
-                        (cons at-left (cons at-right
-                        (kids-untouched U h M (λ k b. omega (arith, counts k, once k, child-held k)) (all-drop (suc c) A)))));
-                  }
-
               pub split-done : Reshaped w w₄ (suc h) t f (splitChild h t c (getD f 0 0)) (drop 1 f)
-              split-done = record {
-                at = subst (λ (n : ℕ). At w₄ (suc h) (splitChild h t c n)) (T .first) at-split;
-                chain = chain-untouched U₁ (λ k b. omega (arith, counts₁ k, counts k, once k, child-held k))
-                    (W₄ .chain ∙ W₃ .chain ∙ W₂ .chain) (T .chain);
-                untouched = untouched-more U (λ k b.
-                    omega (
-                      arith,
-                      counts k,
-                      child-held k,
-                      count-append k (ids (suc h) t) f,
-                      kids-held h k t c (S .place),
-                      first-free k f (S .some),
-                      count-same k (S .here),
-                      count-same k (T .first),
-                    ));
-              }
+              unfolding splitChild
+              split-done =
+                  let z : size (suc h) (splitChild h t c sibling) ≡ size (suc h) t = rw (T .first) (same .sized) in
+                  subst (λ (n : ℕ). Reshaped w w₄ (suc h) t f (splitChild h t c n) (drop 1 f)) (T .first)
+                  (kids-reshaped (S .owns) U c (suc c) (leftHalf K ∷ (rightHalf sibling K ∷ [])) (splitChild h t c sibling) refl
+                  (λ k b. omega (arith, counts k, once k, child-held k))
+                  (λ k b. omega (
+                    arith,
+                    counts k,
+                    child-held k,
+                    kids-held h k t c (S .place),
+                    count-first k f (S .some),
+                    one-same k (S .here),
+                    one-same k (T .first),
+                  ))
+                  (stored-same (S .here) (split-block h t c sibling (S .place) m (em has-middle) z) (W₄ .stored))
+                  (cons at-left (cons at-right nil))
+                  (chain-untouched U₁ (λ k b. omega (arith, counts₁ k, counts k, once k, child-held k))
+                  (W₄ .chain ∙ W₃ .chain ∙ W₂ .chain) (T .chain)))

@@ -8,28 +8,28 @@ use native.Mathlib.Numerals.{add-one}
 use native.Mathlib.Omega.{arith}
 use lib.ListN.{length, getD, drop, length-drop}
 use Rattle.lists.specs.Lists.{count, insertAt}
-use Rattle.lists.proofs.Counts.{count-append}
+use Rattle.lists.proofs.Counts.{count-append, count-first, one-same}
 use Rattle.model.specs.Tree.{Tree, size, ids, Root, rooted, Bag, rootIds, levelsOf}
 use Rattle.model.specs.Insert.{isFull, Grown, insertNonFull, neededBelow, needed, aboveRoot, grownBag, bagInsert}
 use Rattle.model.proofs.Nodes.{node, most}
 use Rattle.model.proofs.Insert.{full, not-full}
-use Rattle.model.proofs.Bags.{bag-insert}
+use Rattle.model.proofs.Bags.{bag-insert, Lifted, lift-law, bag-bare, bag-room, bag-full}
 use Rattle.model.proofs.Bounds.{levels-few}
 use Rattle.pool.specs.Layout.{withBlock, nodeBlock, kidIds, rootBlock, rootId}
 use Rattle.pool.specs.Parts.{Stored, At, ChainAt}
 use Rattle.pool.specs.Chain.{Untouched, Free, Took}
 use Rattle.pool.proofs.Blocks.{length-nodeBlock}
-use Rattle.pool.proofs.Frame.{untouched-both}
+use Rattle.pool.proofs.Frame.{chain-untouched, untouched-more, untouched-both, Wrote, wrote, stored-same}
 use Rattle.tree.specs.declared.Known.{Known}
 use Rattle.tree.specs.Stands.{Became}
-use Rattle.tree.proofs.Edits.{first-free, count-same, stored-same, chain-untouched, untouched-more, Wrote, wrote}
+use Rattle.tree.proofs.Rooting.{Rooted, is-bare}
 use Rattle.insertion.specs.Nodes.{Takes}
 use Rattle.insertion.specs.Ready.{InsertReady, BagReady, Inserts}
 use Rattle.insertion.specs.Steps.{RaiseReady, Raised}
 use Rattle.insertion.proofs.Needing.{Told}
 use Rattle.insertion.proofs.Inserting.{InsertsBelow}
-use Rattle.insertion.proofs.Rooms.{insert-id, lift-law, Lifted, bag-bare, bag-room, bag-full}
-use Rattle.insertion.proofs.Rooting.{Rooted, free-count, is-bare, is-rooted, root-node, needs-one}
+use Rattle.insertion.proofs.Rooms.{insert-id}
+use Rattle.insertion.proofs.Rooting.{free-count, root-of, index-upto, root-node, needs-one}
 
 -- the bag that b became has this root and these free nodes
 grown : {w w′ : List ℕ} {b d : Bag} (h : ℕ) (g : Grown (Tree h)) (k : Known) → d ≡ grownBag h g → k .root ≡ g .tree .id → k .levels ≡ h
@@ -56,7 +56,7 @@ module _ {w : List ℕ} {known : Known} {index : ℕ} (x n : ℕ) (N : (q : BagR
   refuses l = record { accepted = λ m. absurd (omega (arith, N b, free-count b)); refused = λ m. (refl, refl, refl) }
 
   module _ (l : n ≤ known .free) where
-    pub enough : needed (b .bag .root) index ≤ length (b .bag .free)
+    enough : needed (b .bag .root) index ≤ length (b .bag .free)
     enough = omega (arith, N b, free-count b)
 
     accepts : {w′ : List ℕ} {k : Known} → Became w w′ (b .bag) (bagInsert (b .bag) index x) k
@@ -81,7 +81,7 @@ module _ {w : List ℕ} {known : Known} {index : ℕ} (x n : ℕ) (N : (q : BagR
       bare-free = record { chain = b .stands .chain; once = λ k. omega (arith, b .stands .once k); some = some }
 
       module _ (root : ℕ) (w₁ : List ℕ) (et : (f : List ℕ) → Free w f → Took w f root w₁) where
-        pub T : Took w f root w₁
+        T : Took w f root w₁
         T = et f bare-free
 
         pub clean : Stored w₁ root (nodeBlock 0 [] [])
@@ -105,11 +105,11 @@ module _ {w : List ℕ} {known : Known} {index : ℕ} (x n : ℕ) (N : (q : BagR
             let W : Wrote w₁ w₂ root (nodeBlock 1 (x ∷ []) []) =
             wrote (e₂ blank-takes) (T .clean .inside) (length-nodeBlock 1 (x ∷ []) [] (omega arith) (omega arith)) in
             let own : (k : ℕ) → count k f ≡ count k (root ∷ []) + count k (drop 1 f) =
-            (λ k. omega (arith, first-free k f some, count-same k (T .first))) in
+            (λ k. omega (arith, count-first k f some, one-same k (T .first))) in
             accepts
             (grown 0 (record { tree = node (getD f 0 0) (x ∷ []) []; free = drop 1 f })
             (record { root = root; levels = 0; free = known .free - n })
-            (bag-bare (b .bag) index x (is-bare b e)) (T .first) refl left
+            (bag-bare (b .bag) index x (is-bare (b .stands) (b .is) e)) (T .first) refl left
             (record { here = stored-same (sym (T .first)) (leaf-block (getD f 0 0) x) (W .stored); each = tt })
             (chain-untouched (W .untouched) (λ k m. omega (arith, own k, b .stands .once k)) (W .chain) (T .chain))
             (untouched-more (untouched-both (T .untouched) (W .untouched)) (λ k z.
@@ -118,8 +118,8 @@ module _ {w : List ℕ} {known : Known} {index : ℕ} (x n : ℕ) (N : (q : BagR
     -- ---- a list with a root
 
     module _ (ne : known .root ≢ 0) (a : Bool) (A : Told w (known .root) a) where
-      pub R : Rooted w known index (b .bag)
-      R = is-rooted b ne
+      abbrev R : Rooted w known (b .bag)
+      R = root-of b ne
 
       abbrev h : ℕ
       h = known .levels
@@ -132,9 +132,9 @@ module _ {w : List ℕ} {known : Known} {index : ℕ} (x n : ℕ) (N : (q : BagR
 
       pub is-full-root : isFull h t ≡ a
       unfolding isFull
-      is-full-root = sym (A (root-node R))
+      is-full-root = sym (A (root-node b ne))
 
-      pub root-enough : needed (rooted h t) index ≤ length g
+      root-enough : needed (rooted h t) index ≤ length g
       root-enough = subst (λ (r : Root). needed r index ≤ length g) (R .is) enough
 
       -- the caller's nodes
@@ -156,7 +156,7 @@ module _ {w : List ℕ} {known : Known} {index : ℕ} (x n : ℕ) (N : (q : BagR
           here = R .here;
           some = R .some;
           room = not-full h t (is-full-root ∙ q);
-          upto = R .upto;
+          upto = index-upto b ne;
           enough = below-enough;
         }
 
@@ -197,11 +197,11 @@ module _ {w : List ℕ} {known : Known} {index : ℕ} (x n : ℕ) (N : (q : BagR
           abbrev u : Tree (suc h)
           u = aboveRoot h t g
 
-          pub raised : Raised w w₁ h t g root
+          raised : Raised w w₁ h t g root
           raised = E raise-ready
 
-          pub lifted : Lifted h t index g u
-          lifted = lift-law h t (R .owns .fit) root-full index (R .upto) g (omega (arith, two-enough))
+          lifted : Lifted h t index g u
+          lifted = lift-law h t (R .owns .fit) root-full index (index-upto b ne) g (omega (arith, two-enough))
 
           abbrev raised-ready : InsertReady w₁ (suc h) root index
           raised-ready = record {
@@ -217,7 +217,7 @@ module _ {w : List ℕ} {known : Known} {index : ℕ} (x n : ℕ) (N : (q : BagR
             here = lifted .id ∙ sym (raised .first);
             some = omega (arith, lifted .elems);
             room = omega (arith, lifted .elems);
-            upto = omega (arith, R .upto, lifted .sized);
+            upto = omega (arith, index-upto b ne, lifted .sized);
             enough = omega (arith, two-enough, lifted .need, length-drop 2 g);
           }
 

@@ -27,11 +27,6 @@ pub record Counts (w : List ℕ) (k : ℕ) : Type 0 where
   pub node : Node w k
   pub small : node .size < 2 ^ 32
 
--- node k has child c
-pub record HasKid (w : List ℕ) (k c : ℕ) : Type 0 where
-  pub node : Node w k
-  pub below : c < length (node .kids)
-
 -- all children of node k lie in the pool
 pub record Summed (w : List ℕ) (k from : ℕ) : Type 0 where
   pub node : Node w k

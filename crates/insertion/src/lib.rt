@@ -10,7 +10,7 @@ ghost use Rattle.pool.specs.Layout.{nodeBlock, withBlock};
 ghost use Rattle.pool.specs.Parts.{lengthAt};
 ghost use Rattle.tree.specs.Node.{Node};
 ghost use Rattle.tree.specs.Stands.{Reshaped};
-ghost use Rattle.insertion.specs.Nodes.{Takes, TakesKid, Counts, HasKid, Summed, Full, Moves, Blank};
+ghost use Rattle.insertion.specs.Nodes.{Takes, TakesKid, Counts, Summed, Full, Moves, Blank};
 ghost use Rattle.insertion.specs.Ready.{SplitReady, InsertReady, BagReady, Inserts};
 ghost use Rattle.insertion.specs.Steps.{Grew, RoomReady, roomed, Upto, RaiseReady, Raised};
 use pool::COUNT;
@@ -33,15 +33,6 @@ fn is_full(pool: &[u64], k: usize) -> bool
 {
     let a = pool::start_of(k);
     pool::is_full(&pool[a..a + NODE_WORDS])
-}
-
-// The id of child c of node k.
-fn child_id(pool: &[u64], k: usize, c: usize) -> usize
-    requires { ⌜ HasKid (now pool) k c ⌝ }
-    ensures { λ r. ⌜ ((s : HasKid (now (pool .entry)) k c) → r ≡ getD (s .node .kids) c 0) ⌝ }
-{
-    let a = pool::start_of(k);
-    pool::kid(&pool[a..a + NODE_WORDS], c)
 }
 
 // The elements below 16 children of node k, from child `from` on; a leaf has none.
@@ -150,7 +141,7 @@ pub fn split_child(pool: &mut [u64], id: usize, c: usize)
         → Reshaped (now (pool .entry)) (now (pool .exit)) (suc (s .height)) (s .tree) (s .free)
         (splitChild (s .height) (s .tree) c (getD (s .free) 0 0)) (drop 1 (s .free))) ⌝ }
 {
-    let child = child_id(pool, id, c);
+    let child = tree::child(pool, id, c);
     let middle = tree::element(pool, child, 15);
     let left = sum_lengths(pool, child, 0) + 15;
     let right = sum_lengths(pool, child, 16) + 15;

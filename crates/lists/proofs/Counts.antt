@@ -1,17 +1,16 @@
 -- How often numbers stand in a list.
 use mathlib.Core.Path.{_≡_, refl, ap}
-use mathlib.Core.List.{List, [], _∷_, _++_, map}
+use mathlib.Core.List.{List, [], _∷_, _++_}
 use mathlib.Core.Bool.{Bool, true, false}
-use mathlib.Core.Logic.{_⊎_, inl, inr}
+use mathlib.Core.Logic.{_≢_, _⊎_, inl, inr}
 use Prim.Native.Nat.{ℕ, zero, suc, _+_, _≤_, _<_}
 use native.Mathlib.Decide.{ℕ-discrete, decLe}
 use native.Mathlib.Omega.{arith}
 use borrow.Author.Tests.{eqb-true, eq-eqb, ne-eqb}
 use lib.Dec.{eqb}
-use lib.ListN.{length, getD}
-use Rattle.lists.specs.Lists.{count, concat, from}
+use lib.ListN.{length, getD, drop}
+use Rattle.lists.specs.Lists.{count, from}
 use Rattle.lists.proofs.All.{All, nil, cons, all-of, all-dec}
-use Rattle.lists.proofs.Sums.{total-at, measure-concat}
 
 pub count-append : (k : ℕ) (xs ys : List ℕ) → count k (xs ++ ys) ≡ count k xs + count k ys
 unfolding count
@@ -26,11 +25,26 @@ pub count-self : (k : ℕ) (xs : List ℕ) → count k (k ∷ xs) ≡ 1 + count 
 unfolding count
 count-self k xs = rw (eq-eqb k k refl)
 
--- what one of the lists counts, all of them count
-pub count-part : {A : Type 0} (f : A → List ℕ) (k : ℕ) (xs : List A) (c : ℕ) (d : A) → c < length xs
-    → count k (f (getD xs c d)) ≤ count k (concat (map f xs))
-count-part f k xs c d l =
-    omega (arith, measure-concat (count k) (count-nil k) (count-append k) f xs, total-at (λ x. count k (f x)) xs c d l)
+pub count-other : (k j : ℕ) (xs : List ℕ) → k ≢ j → count k (j ∷ xs) ≡ count k xs
+unfolding count
+count-other k j xs n = rw (ne-eqb k j n) (omega arith)
+
+pub count-first : (k : ℕ) (xs : List ℕ) → 0 < length xs → count k xs ≡ count k (getD xs 0 0 ∷ []) + count k (drop 1 xs)
+count-first k [] l = absurd (omega arith)
+count-first k (x ∷ xs) l = count-append k (x ∷ []) xs
+
+-- ---- one number by itself
+
+pub one-same : (k : ℕ) {i j : ℕ} → i ≡ j → count k (i ∷ []) ≡ count k (j ∷ [])
+one-same k e = ap (λ (n : ℕ). count k (n ∷ [])) e
+
+pub one-other : (k j : ℕ) → k ≢ j → count k (j ∷ []) ≡ 0
+unfolding count
+one-other k j n = count-other k j [] n
+
+-- two of which each is counted apart are two
+pub ones-apart : (i j : ℕ) → ((k : ℕ) → count k (i ∷ []) + count k (j ∷ []) ≤ 1) → i ≢ j
+ones-apart i j a e = omega (arith, rw (← e) at (a i), count-self i [])
 
 -- ---- what stands in a list is counted, and what is counted stands in it
 

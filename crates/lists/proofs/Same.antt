@@ -1,5 +1,5 @@
 -- The test for the same list tells whether two lists are equal.
-use mathlib.Core.Path.{_≡_, refl, ap, _∙_}
+use mathlib.Core.Path.{_≡_, refl}
 use mathlib.Core.Bool.{Bool, true, false, _&&_}
 use mathlib.Core.List.{List, [], _∷_}
 use Prim.Native.Nat.{ℕ}
@@ -13,7 +13,7 @@ unfolding same
 same-self [] = refl
 same-self (x ∷ xs) = rw (eq-eqb x x refl, same-self xs)
 
-pub same-equal : (xs ys : List ℕ) → same xs ys ≡ true → xs ≡ ys
+same-equal : (xs ys : List ℕ) → same xs ys ≡ true → xs ≡ ys
 unfolding same
 same-equal [] [] e = refl
 same-equal [] (y ∷ ys) e = let z : _≡_ {A = ℕ} 0 1 = cc in absurd (omega arith)

@@ -3,8 +3,8 @@ use mathlib.Core.Path.{_≡_, ap, _∙_}
 use mathlib.Core.List.{List, [], _∷_, _++_, map}
 use Prim.Native.Nat.{ℕ, suc, _+_, _*_, _≤_, _<_}
 use native.Mathlib.Omega.{arith}
-use lib.ListN.{length, take, drop, getD}
-use lib.Seq.{split-at}
+use lib.ListN.{length, take, drop, getD, set}
+use lib.Seq.{split-at, set-split}
 use Rattle.lists.specs.Lists.{sum, concat}
 use Rattle.lists.proofs.All.{All, nil, cons}
 
@@ -21,6 +21,12 @@ module _ {A : Type 0} (g : A → ℕ) where
       → total g xs ≡ total g (take c xs) + (g (getD xs c d) + total g (drop (suc c) xs))
   unfolding sum
   total-at xs c d l = ap (total g) (split-at xs c d l) ∙ total-append (take c xs) (getD xs c d ∷ drop (suc c) xs)
+
+  -- one of them gives way to another
+  pub total-set : (xs : List A) (c : ℕ) (d x : A) → c < length xs → total g (set xs c x) + g (getD xs c d) ≡ total g xs + g x
+  unfolding sum
+  total-set xs c d x l =
+      omega (arith, ap (total g) (set-split xs c x l), total-append (take c xs) (x ∷ drop (suc c) xs), total-at xs c d l)
 
 -- a measure that adds up over `++` adds up over `concat`
 pub measure-concat : {A B : Type 0} (m : List B → ℕ) → m [] ≡ 0 → ((xs ys : List B) → m (xs ++ ys) ≡ m xs + m ys)

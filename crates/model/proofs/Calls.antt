@@ -3,8 +3,6 @@ use mathlib.Core.Path.{_≡_}
 use Prim.Native.Nat.{ℕ, _+_, _-_, _≤_, _<_}
 use borrow.Author.Tests.{le-leb, lt-leb, lt-ltb, le-ltb}
 use lib.ListN.{length}
-use Rattle.model.specs.declared.Answer.{Answer}
-use Rattle.model.specs.declared.Walked.{Walked}
 use Rattle.model.specs.Tree.{Bag, bagGet, bagReplace}
 use Rattle.model.specs.Insert.{needed, bagInsert}
 use Rattle.model.specs.Remove.{bagRemove}

@@ -39,7 +39,7 @@ abbrev raised : (h : ℕ) → Tree (suc h) → ℕ → Grown (Tree h) → Grown 
 raised h t c r = record { tree = withKid h t c (r .tree); free = r .free }
 
 module _ (h : ℕ) (t : Tree (suc h)) (i x : ℕ) where
-  through : (f : List ℕ) → isFull h (into h t i) ≡ false → insertNonFull (suc h) t i x f
+  pub through : (f : List ℕ) → isFull h (into h t i) ≡ false → insertNonFull (suc h) t i x f
       ≡ raised h t (find h t i .child) (insertNonFull h (into h t i) (find h t i .sub) x f)
   unfolding insertNonFull
   through f e = rw (e, insertNonFull) refl
@@ -49,7 +49,7 @@ module _ (h : ℕ) (t : Tree (suc h)) (i x : ℕ) where
   unfolding neededBelow
   need-through e = rw e (omega arith)
 
-  after-split : (a : ℕ) (f : List ℕ) → isFull h (into h t i) ≡ true → insertNonFull (suc h) t i x (a ∷ f)
+  pub after-split : (a : ℕ) (f : List ℕ) → isFull h (into h t i) ≡ true → insertNonFull (suc h) t i x (a ∷ f)
       ≡ (let s = splitChild h t (find h t i .child) a in
       raised h s (find h s i .child) (insertNonFull h (into h s i) (find h s i .sub) x f))
   unfolding insertNonFull

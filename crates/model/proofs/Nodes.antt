@@ -1,10 +1,10 @@
 -- What a tree is made of, at any height: its list, its size, the nodes that it holds; nodes joined, and cut at a separator.
 use mathlib.Core.Path.{_≡_, refl, sym, ap, ap₂, _∙_}
 use mathlib.Core.List.{List, [], _∷_, _++_, map, map-append}
-use Prim.Native.Nat.{ℕ, zero, suc, _+_, _-_, _≤_, _<_}
+use Prim.Native.Nat.{ℕ, zero, suc, _+_, _≤_, _<_}
 use native.Mathlib.Omega.{arith}
 use lib.ListN.{length, take, drop, getD, length-append, length-map, length-take, length-drop, take-append-drop}
-use lib.Seq.{split-at, getD-drop}
+use lib.Seq.{split-at}
 use Rattle.lists.specs.Lists.{count}
 use Rattle.lists.proofs.All.{All, all-append, all-take, all-drop, all-map, all-at, all-of}
 use Rattle.lists.proofs.Sums.{total, total-append, total-at, measure-concat}
@@ -36,24 +36,14 @@ unfolding ids
 same-id zero s t e = ap (λ (is : List ℕ). getD is 0 0) e
 same-id (suc h) s t e = ap (λ (is : List ℕ). getD is 0 0) e
 
+-- whose a node is: the root's, that of a child before child c, of child c, or of one behind it
+pub kids-held : (h k : ℕ) (t : Tree (suc h)) (c : ℕ) → c < length (t .kids) → held (suc h) k t
+    ≡ count k (t .id ∷ []) + (total (held h k) (take c (t .kids)) + (held h k (kid h t c) + total (held h k) (drop (suc c) (t .kids))))
+kids-held h k t c l = omega (arith, held-inner h k t, total-at (held h k) (t .kids) c (none h) l)
+
 -- a node and one of its children
 pub held-kid : (h k : ℕ) (t : Tree (suc h)) (c : ℕ) → c < length (t .kids) → count k (t .id ∷ []) + held h k (kid h t c) ≤ held (suc h) k t
-held-kid h k t c l = omega (arith, held-inner h k t, total-at (held h k) (t .kids) c (none h) l)
-
--- two of its children
-pub held-kids : (h k : ℕ) (t : Tree (suc h)) (c d : ℕ) → c < d → d < length (t .kids)
-    → held h k (kid h t c) + held h k (kid h t d) ≤ held (suc h) k t
-held-kids h k t c d l m =
-    let rest : List (Tree h) = drop (suc c) (t .kids) in
-    let e : suc c + (d - suc c) ≡ d = omega arith in
-    let same : getD rest (d - suc c) (none h) ≡ kid h t d = getD-drop (suc c) (t .kids) (d - suc c) (none h) ∙ ap (kid h t) e in
-    omega (
-      arith,
-      held-inner h k t,
-      total-at (held h k) (t .kids) c (none h) (omega arith),
-      total-at (held h k) rest (d - suc c) (none h) (rw length-drop (omega arith)),
-      ap (held h k) same,
-    )
+held-kid h k t c l = omega (arith, kids-held h k t c l)
 
 -- ---- a tree's shape: all that makes it fit, but how many elements its root has
 

@@ -1,15 +1,14 @@
 -- The stretch of elements from an index on: it lies in a node of the tree, and has the list's elements in their order.
-use mathlib.Core.Path.{_≡_, refl, sym, ap, subst, _∙_}
+use mathlib.Core.Path.{_≡_, refl}
 use mathlib.Core.Bool.{Bool, true, false}
-use mathlib.Core.List.{List, [], _∷_}
-use Prim.Native.Nat.{ℕ, zero, suc, _+_, _-_, _≤_, _<_}
+use mathlib.Core.List.{[]}
+use Prim.Native.Nat.{ℕ, zero, suc, _+_, _≤_, _<_}
 use native.Mathlib.Omega.{arith}
 use borrow.Author.Tests.{eqb-true, eqb-false}
-use lib.ListN.{length}
 use Rattle.lists.specs.Lists.{count}
 use Rattle.lists.proofs.Counts.{count-self}
 use Rattle.model.specs.declared.Stretch.{Stretch}
-use Rattle.model.specs.Tree.{Tree, kid, size, ids, find, atSeparator}
+use Rattle.model.specs.Tree.{Tree, size, find, atSeparator}
 use Rattle.model.specs.Fit.{Fit}
 use Rattle.model.specs.Calls.{stretch}
 use Rattle.model.proofs.Nodes.{held, held-id, held-kid, most}

@@ -7,7 +7,7 @@ use Rattle.lists.specs.Lists.{same}
 use Rattle.model.specs.declared.Answer.{Answer}
 use Rattle.model.specs.declared.Walked.{Walked}
 use Rattle.model.specs.declared.Stretch.{Stretch}
-use Rattle.model.specs.Tree.{Tree, kid, size, findIn, find, atSeparator, Bag, bare, rooted, listOf, bagGet, bagReplace}
+use Rattle.model.specs.Tree.{Tree, kid, size, findIn, find, atSeparator, Bag, listOf, bagGet, bagReplace}
 use Rattle.model.specs.Insert.{bagInsert, needed}
 use Rattle.model.specs.Remove.{bagRemove}
 

@@ -1,26 +1,18 @@
--- A list kept in the slots of a node's words; one node's words stored; and how many nodes a chain can have.
-use mathlib.Core.Path.{_≡_, refl, sym, ap, ap₂, _∙_}
+-- A list kept in the slots of a node's words.
+use mathlib.Core.Path.{_≡_, refl, sym, ap, _∙_}
 use mathlib.Core.List.{List, [], _∷_, _++_}
-use mathlib.Core.Bool.{Bool, true, false}
-use mathlib.Core.Logic.{_≢_}
-use Prim.Native.Nat.{ℕ, zero, suc, _+_, _-_, _*_, _≤_, _<_}
-use native.Mathlib.Nat.{add-zero, zero-add}
+use Prim.Native.Nat.{ℕ, _+_, _-_, _≤_, _<_}
+use native.Mathlib.Nat.{zero-add}
 use native.Mathlib.Omega.{arith}
-use borrow.Author.Tests.{ne-eqb}
-use lib.Dec.{eqb}
 use lib.ListN.{length, getD, take, drop, replicate, length-append, length-replicate}
 use lib.Seq.{sets, take-at}
-use Rattle.lists.specs.Lists.{count, insertAt, removeAt}
-use Rattle.lists.proofs.Counts.{count-self}
+use Rattle.lists.specs.Lists.{insertAt, removeAt}
 use Rattle.words.specs.Words.{run}
 use Rattle.words.proofs.Laws.{run-length, run-getD}
-use Rattle.pool.specs.Layout.{chainWord, nodeWords, withBlock, slots}
-use Rattle.pool.specs.Parts.{Inside, Stored, ChainAt}
-use Rattle.pool.specs.Chain.{Untouched}
-use Rattle.pool.proofs.Block.{length-withBlock, head-word, stored-block, block-other}
+use Rattle.pool.specs.Layout.{nodeWords, slots}
 use Rattle.pool.proofs.Blocks.{length-slots}
-use Rattle.pool.proofs.Slots.{parts, parts-elems, parts-kids, elems-run, kids-run, slots-getD, slots-append, slots-open, slots-close}
-use Rattle.pool.proofs.Frame.{Apart, stored-frame, chain-frame, chain-inside}
+use Rattle.pool.proofs.Slots.{parts, parts-elems, parts-kids, elems-run, kids-run}
+use Rattle.pool.proofs.Slots.{slots-getD, slots-append, slots-open, slots-close, slots-clear, slots-copy}
 
 -- ---- words in which n slots stand from o on
 
@@ -83,73 +75,14 @@ module _ {B : List ℕ → List ℕ} {o n : ℕ} (A : Area B o n) (xs : List ℕ
       rw (f, g, A .reads (slots n xs) (i + 1) q long (omega arith))
       (A .stores (slots n xs) i (ys ++ (0 ∷ [])) long (omega arith) ∙ ap B (slots-close n xs i q (omega arith) l))
 
--- ---- a node's words stored; and what an edit of the nodes in own leaves
+  module _ (m : ℕ) (r : m ≤ n) where
+    -- those from m on cleared, and copied to an area that is not in use
+    pub area-clear : sets (B (slots n xs)) (o + m) (replicate (n - m) 0) ≡ B (slots n (take m xs))
+    area-clear =
+        A .stores (slots n xs) m (replicate (n - m) 0) long (omega (arith, length-replicate {A = ℕ} (n - m) 0)) ∙ ap B (slots-clear n xs m r l)
 
-pub count-other : (k j : ℕ) (xs : List ℕ) → k ≢ j → count k (j ∷ xs) ≡ count k xs
-unfolding count
-count-other k j xs n = rw (ne-eqb k j n) (omega arith)
-
-pub record Wrote (w w′ : List ℕ) (k : ℕ) (b : List ℕ) : Type 0 where
-  pub stored : Stored w′ k b
-  pub untouched : Untouched w w′ (k ∷ [])
-  pub chain : getD w′ chainWord 0 ≡ getD w chainWord 0
-
-pub wrote : {w w′ : List ℕ} {k : ℕ} (b : List ℕ) → Inside w k → length b ≡ nodeWords → w′ ≡ withBlock w k b → Wrote w w′ k b
-wrote {w} {w′} {k} b I e q =
-    rw q (record {
-      stored = stored-block w k b e I;
-      untouched = record {
-        long = length-withBlock w k b;
-        head = λ i l n. head-word w k b i l;
-        others = λ j J z. block-other w k b e j (J .some) (I .some) (λ p. omega (arith, rw p at z, count-self k []));
-      };
-      chain = head-word w k b chainWord (omega arith);
-    })
-
-module _ {w w′ own : List ℕ} (U : Untouched w w′ own) where
-  pub stored-untouched : {k : ℕ} {ys : List ℕ} → count k own ≡ 0 → Stored w k ys → Stored w′ k ys
-  stored-untouched {k} z S = stored-frame w w′ (U .long) (U .others k (S .inside) z) S
-
-  pub chain-untouched : (f : List ℕ) → getD w′ chainWord 0 ≡ getD w chainWord 0 → Apart own f → ChainAt w f → ChainAt w′ f
-  chain-untouched f q a C = chain-frame w w′ (U .long) f (λ k l. U .others k (chain-inside w f C k l) (a k l)) q C
-
-  pub untouched-more : (ks : List ℕ) → ((k : ℕ) → count k ks ≡ 0 → count k own ≡ 0) → Untouched w w′ ks
-  untouched-more ks a = record { long = U .long; head = U .head; others = λ k I z. U .others k I (a k z) }
-
--- ---- a chain has no more nodes than the pool has words
-
--- the list without n
-record Less (n : ℕ) (xs : List ℕ) : Type 0 where
-  rest : List ℕ
-  long : length xs ≡ length rest + count n xs
-  fewer : (k : ℕ) → count k rest ≤ count k xs
-  none : count n rest ≡ 0
-
-less : (n : ℕ) (xs : List ℕ) → Less n xs
-unfolding count
-less n [] = record { rest = []; long = omega arith; fewer = λ k. omega arith; none = refl }
-less n (x ∷ xs) = go (eqb n x) refl (less n xs)
-  where
-    go : (b : Bool) → eqb n x ≡ b → Less n xs → Less n (x ∷ xs)
-    go true e r = record { rest = r .rest; long = rw e (omega arith); fewer = λ k. omega (arith, r .fewer k); none = r .none }
-    go false e r = record {
-      rest = x ∷ r .rest;
-      long = rw e (omega arith);
-      fewer = λ k. omega (arith, r .fewer k);
-      none = rw e (omega arith);
-    }
-
--- numbers below n, none of them twice, are at most n
-few-below : (n : ℕ) (xs : List ℕ) → ((k : ℕ) → count k xs ≤ 1) → ((k : ℕ) → 0 < count k xs → k < n) → length xs ≤ n
-few-below zero [] once low = omega arith
-few-below zero (x ∷ xs) once low = absurd (omega (arith, low x (omega (arith, count-self x xs))))
-few-below (suc n) xs once low =
-    let r = less n xs in
-    let below : (k : ℕ) → 0 < count k (r .rest) → k < n =
-    (λ k l.
-    let ne : k ≢ n = (λ e. omega (arith, rw e at l, r .none)) in
-    omega (arith, low k (omega (arith, r .fewer k)))) in
-    omega (arith, once n, few-below n (r .rest) (λ k. omega (arith, once k, r .fewer k)) below)
-
-pub chain-few : (w f : List ℕ) → ChainAt w f → ((k : ℕ) → count k f ≤ 1) → length f ≤ length w
-chain-few w f C once = few-below (length w) f once (λ k l. omega (arith, chain-inside w f C k l))
+    pub area-copy : sets (B (slots n [])) (o + 0) (run (slots n xs) m (n - m)) ≡ B (slots n (drop m xs))
+    area-copy =
+        A .stores (slots n []) 0 (run (slots n xs) m (n - m)) (length-slots n [] (omega arith))
+        (omega (arith, run-length (slots n xs) m (n - m) (omega (arith, long))))
+        ∙ ap B (slots-copy n xs m r l)

@@ -1,7 +1,7 @@
 -- A node's words in the pool: read, and after other words are stored for one node.
 use mathlib.Core.Path.{_≡_}
 use mathlib.Core.List.{List}
-use mathlib.Core.Logic.{_≢_, inl, inr}
+use mathlib.Core.Logic.{_≢_, _⊎_, inl, inr}
 use Prim.Native.Nat.{ℕ, _+_, _≤_, _<_}
 use native.Mathlib.Decide.{decLt}
 use native.Mathlib.Omega.{arith}
@@ -44,3 +44,11 @@ module _ (w : List ℕ) (k : ℕ) (ys : List ℕ) where
           | yes p ↦ run-sets-outside w (start k) ys (start j) nodeWords (inl (omega arith))
           | no p ↦ run-sets-outside w (start k) ys (start j) nodeWords (inr (omega arith))
         ]
+
+-- a run of words of one node lies before or behind one of another
+pub runs-apart : {w : List ℕ} {k j : ℕ} → Inside w k → Inside w j → k ≢ j → (from to n : ℕ) → start k ≤ from
+    → from + n ≤ start k + nodeWords → start j ≤ to → to + n ≤ start j + nodeWords → (to ≤ from) ⊎ (from + n ≤ to)
+runs-apart {k = k} {j} K J ne from to n a b c d =
+    let some = K .some in
+    let more = J .some in
+    elim (decLt j k) [ yes l ↦ inl (omega arith) | no l ↦ inr (omega arith) ]

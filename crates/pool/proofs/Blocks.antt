@@ -51,7 +51,7 @@ module _ {A : Type 0} (f : A → List ℕ) where
   length-blocks (cons {x = k} {xs = ks} p ps) = omega (arith, length-append (f k) (concat (map f ks)), length-blocks ps)
 
   -- cut at block j
-  pub run-blocks : (d : A) {ks : List A} → Blocks ks → (j : ℕ) → j < length ks
+  run-blocks : (d : A) {ks : List A} → Blocks ks → (j : ℕ) → j < length ks
       → run (concat (map f ks)) (nodeWords * j) nodeWords ≡ f (getD ks j d)
   unfolding concat run
   run-blocks d nil j l = absurd (omega arith)

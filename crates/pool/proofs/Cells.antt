@@ -19,7 +19,7 @@ use Rattle.pool.proofs.Blocks.{length-freeBlock, length-rootBlock}
 
 -- ---- their ids
 
-abbrev pub cellIds : List Cell → List ℕ
+abbrev cellIds : List Cell → List ℕ
 cellIds cs = map (λ (c : Cell). c .id) cs
 
 pub tree-ids : (h : ℕ) (t : Tree h) → cellIds (treeCells h t) ≡ ids h t
@@ -45,7 +45,7 @@ count-cells k b =
 
 -- ---- their words
 
-abbrev pub Long : Cell → Type 0
+abbrev Long : Cell → Type 0
 Long c = length (c .words) ≡ nodeWords
 
 tree-long : (h : ℕ) (t : Tree h) → Fit h t → All Long (treeCells h t)

@@ -5,7 +5,7 @@ use Prim.Native.Nat.{ℕ, _+_, _-_, _≤_, _<_}
 use native.Mathlib.Decide.{decLt}
 use native.Mathlib.Numerals.{add-one}
 use native.Mathlib.Omega.{arith}
-use lib.ListN.{getD, take, drop}
+use lib.ListN.{getD, drop}
 use lib.Seq.{take-take}
 use Rattle.lists.specs.Lists.{sum}
 use Rattle.lists.proofs.Sums.{total, total-append}
@@ -13,10 +13,10 @@ use Rattle.words.specs.Words.{run}
 use Rattle.words.proofs.Laws.{run-length, run-getD, run-snoc}
 use Rattle.model.specs.Tree.{findIn}
 use Rattle.model.proofs.Find.{place, find-unique}
-use Rattle.pool.specs.Layout.{nodeWords, start}
+use Rattle.pool.specs.Layout.{start}
 use Rattle.pool.specs.Parts.{Inside, lengthAt}
 use Rattle.pool.specs.Find.{Inner, kidLengths}
-use Rattle.pool.proofs.Store.{block-in}
+use Rattle.pool.proofs.Store.{part, block-in}
 
 -- the elements before child c of a node: those of the children before it, and one behind each
 abbrev pub before : List ℕ → List ℕ → ℕ → ℕ
@@ -28,7 +28,7 @@ module _ (w node : List ℕ) (index : ℕ) (N : Inner w node index) where
     pub kid-inside : Inside w k
     kid-inside = rw ek (N .kids c (omega arith))
 
-    module _ (a n sub : ℕ) (ea : a ≡ start k) (en : n ≡ getD (take (a + nodeWords - a) (drop a w)) 1 0) (at : index ≡ before w node c + sub) where
+    module _ (a n sub : ℕ) (ea : a ≡ start k) (en : n ≡ getD (part w a) 1 0) (at : index ≡ before w node c + sub) where
       kid-length : n ≡ lengthAt w (getD node (33 + c) 0)
       kid-length = rw (block-in w a k ea, ek) at en
 

@@ -43,7 +43,7 @@ unfolding levelsAt
 levels-inner n w k zero e l = absurd (omega arith)
 levels-inner n w k (suc c) e l = rw (e, levelsAt)
 
-pub levels-read : (w : List ℕ) (n h : ℕ) (t : Tree h) → h ≤ n → Fit h t → At w h t → levelsAt n w (t .id) ≡ h
+levels-read : (w : List ℕ) (n h : ℕ) (t : Tree h) → h ≤ n → Fit h t → At w h t → levelsAt n w (t .id) ≡ h
 levels-read w n zero t l F A = levels-leaf n w (t .id) (at-leaf w t (A .here) (F .most) 0 (omega arith))
 levels-read w zero (suc h) t l F A = absurd (omega arith)
 levels-read w (suc n) (suc h) t l F A =

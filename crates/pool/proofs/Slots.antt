@@ -72,13 +72,6 @@ module _ (a n : ℕ) (es ks : List ℕ) (z : ℕ) (e : length es ≡ 31) where
   pub kids-run : (c r : ℕ) → c + r ≤ length ks → run (parts a n es ks z) (33 + c) r ≡ run ks c r
   kids-run c r l = rw (← upto-kids) (run-past (a ∷ n ∷ es) (ks ++ (z ∷ [])) c r) ∙ run-left ks (z ∷ []) c r l
 
-  pub parts-link : (v : ℕ) → length ks ≡ 32 → set (parts a n es ks z) 65 v ≡ parts a n es ks v
-  parts-link v l =
-      let i : 65 ≡ length (a ∷ n ∷ es) + (length ks + 0) = omega arith in
-      ap (λ (j : ℕ). set (parts a n es ks z) j v) i
-      ∙ sets-past (a ∷ n ∷ es) (ks ++ (z ∷ [])) (length ks + 0) (v ∷ [])
-      ∙ ap (λ (r : List ℕ). a ∷ n ∷ (es ++ r)) (sets-past ks (z ∷ []) 0 (v ∷ []))
-
 -- ---- a list in n slots
 
 -- a slot that is not in use reads as what is past the end of the list

@@ -1,5 +1,5 @@
 -- Words stored and read inside a node or in the head, said of the nodes' words; and a node that is lent as a part of the pool.
-use mathlib.Core.Path.{_≡_, sym, _∙_}
+use mathlib.Core.Path.{_≡_, sym}
 use mathlib.Core.List.{List, [], _∷_, append-assoc}
 use mathlib.Core.Logic.{inr}
 use Prim.Native.Nat.{ℕ, _+_, _-_, _≤_, _<_}
@@ -51,21 +51,20 @@ module _ (w : List ℕ) (k : ℕ) where
     pub set-block : (i v : ℕ) → i < nodeWords → set w (start k + i) v ≡ withBlock w k (set (block w k) i v)
     set-block i v l = rw withBlock-same at (set-in (block w k) (length-block w k I) i v l)
 
--- node k lent as `&mut pool[a..a + 66]`: what is lent, the pool when it has come back as ys, and when a callee has made f of it
+-- node words lent from a on, as `pool[a..a + 66]`
+abbrev pub part : List ℕ → ℕ → List ℕ
+part w a = take (a + nodeWords - a) (drop a w)
+
+-- node k lent: its words, and the pool when they have come back as ys
 module _ (w : List ℕ) (a k : ℕ) (e : a ≡ start k) where
-  pub block-in : take (a + nodeWords - a) (drop a w) ≡ block w k
+  pub block-in : part w a ≡ block w k
   unfolding block run
   block-in =
       let n : a + nodeWords - a ≡ nodeWords = omega arith in
       rw (n, e)
 
-  module _ (ys : List ℕ) (I : Inside w k) where
-    pub block-put : length ys ≡ nodeWords → putMid a (a + nodeWords - a) w ys ≡ withBlock w k ys
-    unfolding withBlock
-    block-put l =
-        let n : a + nodeWords - a ≡ nodeWords = omega arith in
-        rw (n, e, sets-eq ys w (start k) (omega arith), append-assoc, drop-drop nodeWords (start k) w, l)
-
-    pub block-back : (f : List ℕ → List ℕ) → ys ≡ f (take (a + nodeWords - a) (drop a w))
-        → length ys ≡ length (take (a + nodeWords - a) (drop a w)) → putMid a (a + nodeWords - a) w ys ≡ withBlock w k (f (block w k))
-    block-back f m l = rw (← block-in, ← m) (block-put (l ∙ rw block-in (length-block w k I)))
+  pub block-put : (ys : List ℕ) → Inside w k → length ys ≡ nodeWords → putMid a (a + nodeWords - a) w ys ≡ withBlock w k ys
+  unfolding withBlock
+  block-put ys I l =
+      let n : a + nodeWords - a ≡ nodeWords = omega arith in
+      rw (n, e, sets-eq ys w (start k) (omega (arith, I .room)), append-assoc, drop-drop nodeWords (start k) w, l)

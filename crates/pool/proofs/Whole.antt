@@ -24,7 +24,7 @@ pub record Within (p k : ℕ) : Type 0 where
 module _ {p : ℕ} {b : Bag} (L : Lawful p b) where
   -- ---- which nodes are met, and how many
 
-  pub within : (k : ℕ) → 0 < met k b → Within p k
+  within : (k : ℕ) → 0 < met k b → Within p k
   within k l =
       elim (decLe 1 k) [
         | no q ↦ absurd (omega (arith, L .once k, count-out k 1 p (inl (omega arith))))

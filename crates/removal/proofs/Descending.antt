@@ -1,18 +1,17 @@
 -- One level of a removal in the model, as the way down and the way up: no pool is in sight.
-use mathlib.Core.Path.{_≡_, refl, sym, ap, _∙_}
+use mathlib.Core.Path.{_≡_, refl, sym, _∙_}
 use mathlib.Core.Bool.{Bool, true, false, cond, true≢false}
-use mathlib.Core.List.{List, [], _∷_}
+use mathlib.Core.List.{List, _∷_}
 use Prim.Native.Nat.{ℕ, zero, suc, _+_, _-_, _≤_, _<_}
 use native.Mathlib.Omega.{arith}
 use lib.ListN.{length, getD, set}
-use Rattle.model.specs.declared.Place.{Place}
 use Rattle.model.specs.declared.Repair.{Repair}
 use Rattle.model.specs.declared.Repair.the-variants.{Nothing, FromLeft, FromRight, WithLeft, WithRight}
 use Rattle.model.specs.declared.Way.{Way}
 use Rattle.model.specs.declared.Way.the-variants.{Inside, ByLast, ByFirst, ByMerge}
 use Rattle.model.specs.Tree.{Tree, kid, size, find, before}
 use Rattle.model.specs.Fit.{Fit}
-use Rattle.model.specs.Remove.{merge, borrowLeft, borrowRight, repairFor, repaired, Filled, fill, Shrunk, back, swapped, wayFor, removeStep, remove}
+use Rattle.model.specs.Remove.{merge, repairFor, repaired, Filled, fill, Shrunk, back, swapped, wayFor, removeStep, remove}
 use Rattle.model.proofs.Nodes.{size-least, Rearranged, rearranged}
 use Rattle.model.proofs.Find.{place, found, Step, step, separator}
 use Rattle.model.proofs.Fill.{Refilled, merge-refills, fill-law}
@@ -127,7 +126,7 @@ module _ (h : ℕ) (t : Tree (suc h)) (i : ℕ) (f : List ℕ) (F : Fit (suc h) 
   pub filled : Says h t c i Inside → Refilled h t i f (fill h t c f)
   filled p = fill-law h t c i f F n (way .child) (omega (arith, way .index)) p
 
-  pub merged : Says h t c i ByMerge → Refilled h t i f (record { node = merge h t c; child = c; free = kid h t (c + 1) .id ∷ f })
+  merged : Says h t c i ByMerge → Refilled h t i f (record { node = merge h t c; child = c; free = kid h t (c + 1) .id ∷ f })
   merged p = merge-refills h t F c (place-of (p .0)) (p .1) (p .2) i f (omega (arith, way .index)) (omega (arith, p .0))
 
   beside-law : (d j : ℕ) → c < length (t .elems) → d < length (t .kids) → 16 ≤ length (kid h t d .elems) → j < size h (kid h t d)

@@ -1,71 +1,29 @@
 -- The way of a removal through a node, step by step as the code goes it.
 use mathlib.Core.Path.{_≡_, refl, sym, ap, subst, _∙_}
 use mathlib.Core.Bool.{Bool, true, false}
-use mathlib.Core.List.{List, [], _∷_, map}
-use Prim.Native.Nat.{ℕ, suc, _+_, _-_, _*_, _≤_, _<_}
+use mathlib.Core.List.{List, _∷_}
+use Prim.Native.Nat.{ℕ, suc, _+_, _-_, _<_}
 use native.Mathlib.Omega.{arith}
 use borrow.Author.Tests.{eqb-true, leb-true, leb-false}
 use lib.ListN.{length, take, drop, getD}
 use lib.Seq.{length-take-le, take-at, getD-at}
-use Rattle.model.specs.declared.Place.{Place}
 use Rattle.model.specs.declared.Way.{Way}
 use Rattle.model.specs.declared.Way.the-variants.{Inside, ByLast, ByFirst, ByMerge}
-use Rattle.model.specs.Tree.{Tree, kid, none, size, findIn, find, before, atSeparator}
-use Rattle.model.specs.Fit.{Fit}
+use Rattle.model.specs.Tree.{Tree, kid, none, size, find, before, atSeparator}
 use Rattle.model.specs.Remove.{isThin, joined, merge, fill, wayFor}
 use Rattle.model.proofs.Nodes.{size-least}
-use Rattle.model.proofs.Find.{Step, step}
+use Rattle.model.proofs.Find.{Step}
 use Rattle.model.proofs.Fill.{Refilled}
 use Rattle.model.proofs.Remove.{Says}
-use Rattle.pool.specs.Layout.{start, block}
-use Rattle.pool.specs.Find.{kidLengths, Inner}
-use Rattle.pool.proofs.Store.{block-in}
-use Rattle.pool.proofs.Node.{at-kid, kid-lengths, inner-at}
 use Rattle.tree.specs.declared.Turn.{Turn}
-use Rattle.tree.specs.Lookup.{Above, Turns}
+use Rattle.tree.specs.Lookup.{Above, Turns, HasKid}
 use Rattle.tree.specs.Stands.{Owns, Reshaped}
-use Rattle.tree.proofs.Lending.{reshaped-same, owns-stands}
-use Rattle.removal.specs.declared.Descent.{Descent}
+use Rattle.tree.proofs.Edits.{has-kid, child-is, reshaped-none, owns-above}
 use Rattle.repair.specs.Ready.{PairReady, Few, FillReady, Fills}
-use Rattle.removal.specs.Ready.{RemoveReady}
-use Rattle.removal.specs.Down.{Descended, entered, beside, downBy, descend, DownReady, Went, Enters, into}
-use Rattle.repair.proofs.Pieces.{part}
 use Rattle.repair.proofs.Choice.{ThinIs}
+use Rattle.removal.specs.declared.Descent.{Descent}
+use Rattle.removal.specs.Down.{downBy, descend, DownReady, Went}
 use Rattle.removal.proofs.Descending.{fill-keeps, found-filled, way, went, place-of, filled}
-
--- ---- `enter`
-
-module _ {w : List ℕ} {id index : ℕ} (s : Enters w id index) (a : ℕ) (ea : a ≡ start id) where
-  abbrev hE : ℕ
-  hE = s .height
-
-  abbrev tE : Tree (suc hE)
-  tE = s .tree
-
-  lent : part w a ≡ block w (tE .id)
-  lent = block-in w a (tE .id) (ea ∙ ap start (sym (s .here)))
-
-  stepE : Step hE tE index
-  stepE = step hE tE (s .fit) index (s .upto)
-
-  pub enter-inner : Inner w (part w a) index
-  enter-inner = rw lent (inner-at w hE tE (s .fit) (s .at) index (s .upto))
-
-  module _ (p : Place) (ep : p ≡ findIn (kidLengths w (part w a)) index) where
-    is : p ≡ find hE tE index
-    is = ep ∙ rw (lent, kid-lengths w hE tE (s .fit) (s .at)) refl
-
-    pub enter-child : p .child < 32
-    enter-child = rw is (omega (arith, stepE .child, s .fit .most))
-
-    pub enters : (k n : ℕ) → k ≡ getD (part w a) (33 + p .child) 0
-        → _≡_ {A = Descent} (record { id = k; index = p .sub; swaps = false; at = 0; freed = n }) (into hE tE index n)
-    enters k n ek =
-        let e : k ≡ kid hE tE (find hE tE index .child) .id =
-        ek ∙ rw (lent, is) (at-kid w hE tE (s .at .here) (s .fit .most) (find hE tE index .child) (omega (arith, stepE .child, s .fit .most))) in
-        rw (e, is) refl
-
--- ---- `go_down`
 
 module _ {w : List ℕ} {id index : ℕ} (s : DownReady w id index) where
   abbrev h : ℕ
@@ -90,11 +48,7 @@ module _ {w : List ℕ} {id index : ℕ} (s : DownReady w id index) where
   says = went h t index f (O .fit) (s .ready .some) (s .ready .below)
 
   abbrev pub above : Above w id index
-  above = record {
-    height = h;
-    stands = owns-stands O (s .ready .here) (s .ready .some);
-    upto = omega (arith, s .ready .below);
-  }
+  above = owns-above O (s .ready .here) index (omega (arith, s .ready .below))
 
   -- the step that is taken, by the way that is found
   by : {w′ : List ℕ} {r : Descent} (y : Way) → wayFor h t index ≡ y → Went w w′ h t f (downBy h y t c index f) r
@@ -102,7 +56,7 @@ module _ {w : List ℕ} {id index : ℕ} (s : DownReady w id index) where
   unfolding descend
   by {w′} {r} y e D = subst (λ (x : Way). Went w w′ h t f (downBy h x t c index f) r) (sym e) D
 
-  module _ (u : Turn) (turned : (q : Above w id index) → Turns (q .height) (q .stands .tree) index u) where
+  module _ (u : Turn) (turned : (q : Above w id index) → Turns (q .height) (q .tree) index u) where
     T : Turns h t index u
     T = turned above
 
@@ -131,29 +85,29 @@ module _ {w : List ℕ} {id index : ℕ} (s : DownReady w id index) where
       unfolding turn-kid kid-ready
       M = subst (λ (d : ℕ). Fills w w₁ h t f (fill h t d f) n) (T .child) (fills turn-kid)
 
-      pub enter-ready : Enters w₁ id index
-      enter-ready = record {
+      pub again : Above w₁ id index
+      again = record {
         height = h;
         tree = fill h t c f .node;
+        here = fill-keeps h t c f .here ∙ s .ready .here;
         at = M .reshaped .at;
         fit = S .same .fit;
-        here = fill-keeps h t c f .here ∙ s .ready .here;
         upto = omega (arith, S .same .sized, s .ready .below);
       }
 
-      pub went-inside : (r : Descent) → ((q : Enters w₁ id index) → r ≡ into (q .height) (q .tree) index n) → Went w w₁ h t f
-          (descend h t index f) r
-      unfolding downBy enter-ready
-      went-inside r e =
+      pub went-inside : (v : Turn) → ((q : Above w₁ id index) → Turns (q .height) (q .tree) index v)
+          → Went w w₁ h t f (descend h t index f) (record { id = v .id; index = v .sub; swaps = false; at = 0; freed = n })
+      unfolding downBy again
+      went-inside v e =
           let is = found-filled h t index f (fill h t c f) S in
-          by Inside inside (rw (e enter-ready, is) (record {
-            id = refl;
-            index = refl;
+          by Inside inside (record {
+            id = rw is at (e again .id);
+            index = rw is at (e again .sub);
             swaps = refl;
             at = refl;
             freed = M .count;
             reshaped = M .reshaped;
-          }))
+          })
 
     -- ---- the index is that of the separator behind the child
 
@@ -167,8 +121,14 @@ module _ {w : List ℕ} {id index : ℕ} (s : DownReady w id index) where
       place : c < length (t .elems)
       place = place-of h t index f (O .fit) (s .ready .some) (s .ready .below) (omega (arith, W .index, end))
 
+      next-place : u .child + 1 < length (t .kids)
+      next-place = rw (T .child) (omega (arith, place, O .fit .one-more))
+
       pub next-kid : FillReady w id (u .child + 1)
-      next-kid = kid-ready (u .child + 1) (rw (T .child) (omega (arith, place, O .fit .one-more)))
+      next-kid = kid-ready (u .child + 1) next-place
+
+      pub next-has : HasKid w id (u .child + 1)
+      next-has = has-kid O (s .ready .here) next-place
 
       -- what the tests say of the two children
       left-thin : {b : Bool} → ThinIs w id (u .child) b → isThin h (kid h t c) ≡ b
@@ -194,22 +154,22 @@ module _ {w : List ℕ} {id index : ℕ} (s : DownReady w id index) where
             swaps = refl;
             at = T .child;
             freed = omega arith;
-            reshaped = reshaped-same O;
+            reshaped = reshaped-none O;
           })
 
       module _ (e : ThinIs w id (u .child) true) where
         pub went-first : ThinIs w id (u .child + 1) false
-            → (k : ℕ) → ((q : FillReady w id (u .child + 1)) → k ≡ kid (q .height) (q .tree) (u .child + 1) .id)
+            → (k : ℕ) → ((q : HasKid w id (u .child + 1)) → k ≡ getD (q .node .kids) (u .child + 1) 0)
             → Went w w h t f (descend h t index f) (record { id = k; index = 0; swaps = true; at = u .child; freed = 0 })
         unfolding wayFor downBy next-kid kid-ready
         went-first g k ek =
             by ByFirst (rw (sep, left-thin e, right-thin g) refl) (record {
-              id = subst (λ (d : ℕ). k ≡ kid h t (d + 1) .id) (T .child) (ek next-kid);
+              id = subst (λ (d : ℕ). k ≡ kid h t (d + 1) .id) (T .child) (sym (child-is O (s .ready .here) next-place k ek));
               index = refl;
               swaps = refl;
               at = T .child;
               freed = omega arith;
-              reshaped = reshaped-same O;
+              reshaped = reshaped-none O;
             })
 
         module _ (g : ThinIs w id (u .child + 1) true) where

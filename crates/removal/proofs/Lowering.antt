@@ -7,26 +7,22 @@ use native.Mathlib.Omega.{arith}
 use lib.ListN.{length, getD}
 use Rattle.lists.specs.Lists.{count}
 use Rattle.lists.proofs.Edits.{length-removeAt}
-use Rattle.lists.proofs.Counts.{count-append, count-self}
+use Rattle.lists.proofs.Counts.{count-append, count-self, one-same}
 use Rattle.model.specs.Tree.{Tree, Below, kid, size, flat, ids, Root, bare, rooted, Bag, listOf, rootIds, levelsOf}
-use Rattle.model.specs.Fit.{Fit}
 use Rattle.model.specs.Remove.{Shrunk, remove, lowered, bagRemove}
-use Rattle.model.proofs.Nodes.{node, held, flat-length}
+use Rattle.model.proofs.Nodes.{node, held-id, kids-held, flat-length}
 use Rattle.model.proofs.Remove.{Removed, remove-law}
 use Rattle.pool.specs.Layout.{start, block, rootId}
-use Rattle.pool.specs.Parts.{Inside, At, RootAt, ChainAt, countAt}
+use Rattle.pool.specs.Parts.{Inside, ChainAt, countAt}
 use Rattle.pool.specs.Chain.{Untouched, Gave}
-use Rattle.pool.proofs.Store.{block-in}
+use Rattle.pool.proofs.Store.{part, block-in}
 use Rattle.pool.proofs.Node.{at-count, at-kid}
-use Rattle.pool.proofs.Frame.{at-untouched, untouched-both}
-use Rattle.pool.proofs.Areas.{untouched-more, chain-few}
+use Rattle.pool.proofs.Frame.{at-untouched, chain-few, untouched-more, untouched-none, untouched-both}
 use Rattle.tree.specs.declared.Known.{Known}
-use Rattle.tree.specs.Stands.{Owns, Reshaped, knownOf, BagStands, Became}
-use Rattle.tree.proofs.Lending.{root-held, kid-held, owns-after}
-use Rattle.removal.specs.declared.Taken.{Taken}
+use Rattle.tree.specs.Stands.{Owns, Became}
+use Rattle.tree.proofs.Rooting.{Rooted, is-rooted}
 use Rattle.removal.specs.declared.Cut.{Cut}
 use Rattle.removal.specs.Ready.{RemoveReady, Removes, LowerReady, BagHas, BagRemoves}
-use Rattle.repair.proofs.Pieces.{part}
 use Rattle.removal.proofs.Descending.{remove-id}
 
 abbrev bag : Root → List ℕ → Bag
@@ -78,7 +74,7 @@ module _ {w : List ℕ} {known : Known} (s : LowerReady w known) where
 
   unfree : count (known .root) f ≡ 0
   unfree =
-      subst (λ (k : ℕ). count k f ≡ 0) (s .here) (omega (arith, s .owns .once (t .id), root-held h (t .id) t, count-self (t .id) []))
+      subst (λ (k : ℕ). count k f ≡ 0) (s .here) (omega (arith, s .owns .once (t .id), held-id h (t .id) t, count-self (t .id) []))
 
   pub lower-stays : (n : ℕ) → n ≡ countAt w (known .root) → 0 < n → Became w w (bag (rooted h t) f) (lowered h t f) known
   unfolding rootId levelsOf rootIds
@@ -87,7 +83,7 @@ module _ {w : List ℕ} {known : Known} (s : LowerReady w known) where
         known = λ i. record { root = sym (s .here) i; levels = h; free = s .frees i };
         tree = s .owns .at;
         chain = s .owns .chain;
-        untouched = record { long = refl; head = λ i l n. refl; others = λ k I z. refl };
+        untouched = untouched-none;
       })
 
   -- the root's node is freed
@@ -105,8 +101,8 @@ module _ {w : List ℕ} {known : Known} (s : LowerReady w known) where
     -- nothing but the tree's nodes was touched
     own : Untouched w w₁ (ids h t ++ f)
     own =
-        untouched-more (G .untouched) (ids h t ++ f)
-        (λ k z. omega (arith, count-append k (ids h t) f, root-held h k t, ap (λ (j : ℕ). count k (j ∷ [])) (s .here)))
+        untouched-more (G .untouched)
+        (λ k z. omega (arith, count-append k (ids h t) f, held-id h k t, one-same k (s .here)))
 
     pub lower-gone : h ≡ 0 → (n : ℕ) → n ≡ known .free + 1
         → Became w w₁ (bag (rooted h t) f) (lowered h t f) (record { root = 0; levels = 0; free = n })
@@ -146,7 +142,7 @@ module _ {w : List ℕ} {known : Known} (s : LowerReady w known) where
             (sym (lowered-kid h t f e)) (record {
               known = λ i. record { root = K i; levels = L i; free = N i };
               tree = at-untouched (G .untouched) h (kid h t 0)
-                  (λ j m. omega (arith, O .once j, kid-held h j t 0 l, ap (λ (i : ℕ). count j (i ∷ [])) p)) (O .at .each 0 l);
+                  (λ j m. omega (arith, O .once j, kids-held h j t 0 l, one-same j p)) (O .at .each 0 l);
               chain = C;
               untouched = U;
             })
@@ -156,43 +152,22 @@ module _ {w : List ℕ} {known : Known} (s : LowerReady w known) where
 
 -- ---- the whole list
 
--- the list has a root, with its tree
-record Rooted (w : List ℕ) (known : Known) (index : ℕ) (d : Bag) : Type 0 where
-  tree : Tree (known .levels)
-  is : d .root ≡ rooted (known .levels) tree
-  here : tree .id ≡ known .root
-  owns : Owns w (known .levels) tree (d .free)
-  some : 0 < length (tree .elems)
-  below : index < size (known .levels) tree
-  frees : known .free ≡ length (d .free)
-
-top : {w : List ℕ} {known : Known} {index : ℕ} (b : BagHas w known index) → Rooted w known index (b .bag)
-unfolding rootId levelsOf listOf rootIds
-top {w} {known} {index} b = go (b .bag .root) (b .bag .free) (b .stands) (b .below) (b .is)
-  where
-    go : (r : Root) (f : List ℕ) → BagStands w (bag r f) → index < length (listOf r) → known ≡ knownOf (bag r f) → Rooted w known index (bag r f)
-    go bare f S l e = absurd (omega arith)
-    go (rooted h t) f S l e =
-        let n = flat-length h t (S .fit .fit) in
-        subst (λ (k : Known). Rooted w k index (bag (rooted h t) f)) (sym e) (record {
-          tree = t;
-          is = refl;
-          here = refl;
-          owns = record { at = S .tree; fit = S .fit .fit; chain = S .chain; once = S .once; small = omega (arith, S .small) };
-          some = S .fit .some;
-          below = omega arith;
-          frees = refl;
-        })
-
 module _ {w : List ℕ} {known : Known} {index : ℕ} (b : BagHas w known index) where
   abbrev l : ℕ
   l = known .levels
 
-  abbrev R : Rooted w known index (b .bag)
-  R = top b
+  R : Rooted w known (b .bag)
+  unfolding listOf
+  R = is-rooted (b .stands) (b .is) (λ q. omega (arith, b .below, ap (λ (r : Root). length (listOf r)) q))
+
+  below : index < size l (R .tree)
+  below = omega (arith, b .below, R .long)
+
+  frees : known .free ≡ length (b .bag .free)
+  frees = ap (λ (k : Known). k .free) (b .is)
 
   pub root-ready : RemoveReady w l (known .root) index
-  root-ready = record { tree = R .tree; free = b .bag .free; owns = R .owns; here = R .here; some = R .some; below = R .below }
+  root-ready = record { tree = R .tree; free = b .bag .free; owns = R .owns; here = R .here; some = R .some; below = below }
 
   module _ (c : Cut) (w₁ : List ℕ) (cut : (s : RemoveReady w l (known .root) index)
       → Removes w w₁ l (s .tree) (s .free) (remove l (s .tree) index (s .free)) c) where
@@ -204,7 +179,7 @@ module _ {w : List ℕ} {known : Known} {index : ℕ} (b : BagHas w known index)
     D = cut root-ready
 
     law : Removed l (R .tree) index (b .bag .free) S
-    law = remove-law l (R .tree) index (b .bag .free) (R .owns .fit) (R .some) (R .below)
+    law = remove-law l (R .tree) index (b .bag .free) (R .owns .fit) (R .some) below
 
     -- the root may have no element left
     pub left : (n : ℕ) → n ≡ known .free + c .freed → LowerReady w₁ (record { root = known .root; levels = l; free = n })
@@ -222,11 +197,11 @@ module _ {w : List ℕ} {known : Known} {index : ℕ} (b : BagHas w known index)
           flat-length l (R .tree) (R .owns .fit),
           flat-length l (S .tree) (law .fit),
           ap length (law .list),
-          length-removeAt (flat l (R .tree)) index (omega (arith, R .below, flat-length l (R .tree) (R .owns .fit))),
+          length-removeAt (flat l (R .tree)) index (omega (arith, below, flat-length l (R .tree) (R .owns .fit))),
         );
       };
-      here = remove-id l (R .tree) index (b .bag .free) (R .owns .fit) (R .some) (R .below) ∙ R .here;
-      frees = omega (arith, D .freed, R .frees);
+      here = remove-id l (R .tree) index (b .bag .free) (R .owns .fit) (R .some) below ∙ R .here;
+      frees = omega (arith, D .freed, frees);
     }
 
     pub frees-few : known .free + c .freed ≤ length w
@@ -242,7 +217,7 @@ module _ {w : List ℕ} {known : Known} {index : ℕ} (b : BagHas w known index)
         let o : List ℕ = ids l (R .tree) ++ b .bag .free in
         let o₁ : List ℕ = ids l (S .tree) ++ S .free in
         let U : Untouched w w₂ o =
-        untouched-more (untouched-both (D .reshaped .untouched) (B .untouched)) o
+        untouched-more (untouched-both (D .reshaped .untouched) (B .untouched))
         (λ k z. omega (
           arith,
           law .nodes k,

@@ -1,43 +1,37 @@
 -- The way up through a node after the removal below it, and all levels together.
-use mathlib.Core.Path.{_≡_, refl, sym, ap, ap₂, subst, _∙_}
+use mathlib.Core.Path.{_≡_, refl, sym, ap, subst, _∙_}
 use mathlib.Core.Bool.{Bool, true, false, cond}
-use mathlib.Core.List.{List, [], _∷_, _++_, map}
+use mathlib.Core.List.{List}
 use mathlib.Core.Logic.{_≢_}
-use Prim.Native.Nat.{ℕ, zero, suc, _+_, _-_, _*_, _^_, _≤_, _<_}
+use Prim.Native.Nat.{ℕ, zero, suc, _+_, _-_, _≤_, _<_}
 use native.Mathlib.Omega.{arith}
-use lib.ListN.{length, take, drop, getD, set, length-set}
-use lib.Seq.{set-split, map-set-same}
-use Rattle.lists.specs.Lists.{sum, count, removeAt}
-use Rattle.lists.proofs.All.{nil, cons}
-use Rattle.lists.proofs.Sums.{total, total-append, total-at}
+use lib.ListN.{length, getD, set, length-set}
+use lib.Seq.{map-set-same}
+use Rattle.lists.specs.Lists.{sum, removeAt}
+use Rattle.lists.proofs.Sums.{total-set}
 use Rattle.lists.proofs.Edits.{length-removeAt}
-use Rattle.lists.proofs.Counts.{count-append, count-self}
 use Rattle.model.specs.Tree.{Tree, kid, none, size, ids, flat}
 use Rattle.model.specs.Fit.{Fit}
 use Rattle.model.specs.Remove.{Shrunk, remove}
-use Rattle.model.proofs.Nodes.{held, flat-length}
+use Rattle.model.proofs.Nodes.{flat-length}
 use Rattle.model.proofs.Remove.{Removed, remove-law}
-use Rattle.pool.specs.Layout.{nodeWords, start, block, withBlock, nodeBlock, idOf, rootBlock}
-use Rattle.pool.specs.Parts.{Stored, At}
-use Rattle.pool.specs.Chain.{Untouched}
-use Rattle.pool.proofs.Block.{block-word}
+use Rattle.pool.specs.Layout.{nodeWords, start, withBlock, nodeBlock, idOf, rootBlock}
 use Rattle.pool.proofs.Blocks.{length-nodeBlock, length-rootBlock}
 use Rattle.pool.proofs.Store.{set-block, withBlock-again}
-use Rattle.pool.proofs.Frame.{at-untouched, untouched-both}
-use Rattle.pool.proofs.Areas.{Wrote, wrote, chain-untouched, untouched-more}
+use Rattle.pool.proofs.Frame.{Wrote, wrote, wrote-same}
 use Rattle.tree.specs.Node.{Node}
 use Rattle.tree.specs.Lookup.{HasElement, Swapped}
-use Rattle.tree.specs.Stands.{Owns, Reshaped}
-use Rattle.tree.proofs.Lending.{rebuilt, owns-after, reshaped-both, reshaped-same, kid-held, owns-kid}
-use Rattle.removal.specs.declared.Descent.{Descent}
-use Rattle.removal.specs.declared.Cut.{Cut}
+use Rattle.tree.specs.Stands.{Owns}
+use Rattle.tree.proofs.Standing.{length-word}
+use Rattle.tree.proofs.Edits.{node-untouched, root-reshaped, owns-kid, root-apart, kid-reshaped, owns-after, reshaped-both}
 use Rattle.repair.specs.declared.Piece.{Piece}
 use Rattle.repair.specs.Pieces.{Takes, TookOut}
+use Rattle.repair.proofs.Ends.{seats, In, seated, leaf-block}
+use Rattle.repair.proofs.Moves.{root-is}
+use Rattle.removal.specs.declared.Descent.{Descent}
+use Rattle.removal.specs.declared.Cut.{Cut}
 use Rattle.removal.specs.Ready.{RemoveReady, Removes}
 use Rattle.removal.specs.Down.{Descended, descend, DownReady, Went, UpReady, Up}
-use Rattle.repair.proofs.Ends.{seats, In, seated, leaf-block}
-use Rattle.repair.proofs.Lending.{node-kept}
-use Rattle.repair.proofs.Moves.{stored-as, root-is}
 use Rattle.removal.proofs.Descending.{raised, goal, remove-raised, Descends, descends, remove-id, remove-few}
 
 taken : {A : Type 0} (x y : A) (b : Bool) → b ≡ true → x ≡ cond b x y
@@ -56,12 +50,8 @@ module _ {w : List ℕ} {id : ℕ} {d : Descent} (s : UpReady w id d) (a : ℕ) 
   abbrev m : Node w id
   m = s .node
 
-  word : getD w (a + 1) 0 ≡ m .size
-  unfolding nodeBlock
-  word = rw (ea, ← (block-word w id 1 (omega arith)), m .stored .is) refl
-
   pub up-some : 0 < getD w (a + 1) 0
-  up-some = rw word (s .some)
+  up-some = rw (length-word m a ea) (s .some)
 
   -- one element fewer below
   abbrev fewer : List ℕ
@@ -75,7 +65,7 @@ module _ {w : List ℕ} {id : ℕ} {d : Descent} (s : UpReady w id d) (a : ℕ) 
 
   one : fewer ≡ withBlock w id (less (m .elems))
   unfolding nodeBlock
-  one = rw (word, ea, set-block w id (m .stored .inside) 1 (m .size - 1) (omega arith), m .stored .is) refl
+  one = rw (length-word m a ea, ea, set-block w id (m .stored .inside) 1 (m .size - 1) (omega arith), m .stored .is) refl
 
   pub up-plain : d .swaps ≡ false → (x : ℕ) → Up w fewer id d x m x
   up-plain e x = record {
@@ -89,7 +79,7 @@ module _ {w : List ℕ} {id : ℕ} {d : Descent} (s : UpReady w id d) (a : ℕ) 
       size = m .size - 1;
       elems = m .elems;
       kids = m .kids;
-      stored = wrote (less (m .elems)) (m .stored .inside) (long (m .elems) refl) one .stored;
+      stored = wrote one (m .stored .inside) (long (m .elems) refl) .stored;
       few-elems = m .few-elems;
       few-kids = m .few-kids;
     };
@@ -129,17 +119,12 @@ module _ {w : List ℕ} {id index : ℕ} (q : RemoveReady w 0 id index) where
       let s : Tree 0 = record { id = t .id; elems = removeAt (t .elems) index; kids = t .kids } in
       let n = length-removeAt (t .elems) index (q .below) in
       let W : Wrote w w₁ id (rootBlock 0 s) =
-      wrote (rootBlock 0 s) (seated leaf-in .node .stored .inside) (length-rootBlock 0 s (record { most = omega arith }))
-      (T .words ∙ ap (withBlock w id) (sym (leaf-block t index few (q .below)))) in
-      let own : (k : ℕ) → count k (id ∷ []) ≡ count k (t .id ∷ []) = (λ k. ap (λ (i : ℕ). count k (i ∷ [])) (sym (q .here))) in
+      wrote (T .words ∙ ap (withBlock w id) (sym (leaf-block t index few (q .below)))) (seated leaf-in .node .stored .inside)
+      (length-rootBlock 0 s (record { most = omega arith })) in
       record {
         old = T .elem;
         freed = omega arith;
-        reshaped = record {
-          at = record { here = stored-as (q .here) (W .stored); each = tt };
-          chain = chain-untouched (W .untouched) (q .free) (W .chain) (λ k l. omega (arith, own k, q .owns .once k)) (q .owns .chain);
-          untouched = untouched-more (W .untouched) ((t .id ∷ []) ++ q .free) (λ k z. omega (arith, own k, count-append k (t .id ∷ []) (q .free)));
-        };
+        reshaped = root-reshaped 0 t (s .elems) (q .owns) (wrote-same (q .here) refl W);
       }
 
 -- ---- a node with children
@@ -166,7 +151,7 @@ module _ {w : List ℕ} {h id index : ℕ} (q : RemoveReady w (suc h) id index) 
   L = descends h t index f (q .owns .fit) (q .some) (q .below)
 
   O : Owns w₁ (suc h) (D .node) (D .free)
-  O = owns-after (q .owns) (L .same) (M .reshaped)
+  O = owns-after (q .owns) (M .reshaped) (L .same)
 
   KF : Fit h K
   KF = L .same .fit .each (D .child) (L .child) .fit
@@ -177,7 +162,7 @@ module _ {w : List ℕ} {h id index : ℕ} (q : RemoveReady w (suc h) id index) 
   here : D .node .id ≡ id
   here = L .here ∙ q .here
 
-  pub next : RemoveReady w₁ h (r .id) (r .index)
+  next : RemoveReady w₁ h (r .id) (r .index)
   next = record {
     tree = K;
     free = D .free;
@@ -199,34 +184,17 @@ module _ {w : List ℕ} {h id index : ℕ} (q : RemoveReady w (suc h) id index) 
     law : Removed h K (D .sub) (D .free) R
     law = remove-law h K (D .sub) (D .free) KF KS (L .below)
 
-    -- who holds node k
-    record Holders (k : ℕ) : Type 0 where
-      whole : held (suc h) k (D .node)
-          ≡ count k (id ∷ [])
-          + (total (held h k) (take (D .child) (D .node .kids)) + (held h k K + total (held h k) (drop (suc (D .child)) (D .node .kids))))
-      once : held (suc h) k (D .node) + count k (D .free) ≤ 1
-      after : held h k (R .tree) + count k (R .free) ≡ held h k K + count k (D .free)
-      edited : count k (ids h K ++ D .free) ≡ held h k K + count k (D .free)
-
-    holders : (k : ℕ) → Holders k
-    holders k = record {
-      whole = omega (arith, kid-held h k (D .node) (D .child) (L .child), ap (λ (i : ℕ). count k (i ∷ [])) here);
-      once = O .once k;
-      after = law .nodes k;
-      edited = count-append k (ids h K) (D .free);
-    }
-
     abbrev top : Node w₁ id
     top = seated (record { id = here; at = O .at; fit = O .fit }) .node
 
-    pub up-ready : UpReady w₂ id r
+    up-ready : UpReady w₂ id r
     up-ready = record {
-      node = node-kept (C .reshaped .untouched) (omega (arith, holders id, count-self id [])) top;
+      node = node-untouched (C .reshaped .untouched) (root-apart O (D .child) (L .child) id here) top;
       some = omega (arith, L .same .sized, q .below);
       place = λ e. omega (arith, M .at, L .place (sym (M .swaps) ∙ e));
     }
 
-    pub freed-few : r .freed + b .freed ≤ suc h
+    freed-few : r .freed + b .freed ≤ suc h
     freed-few =
         omega (
           arith,
@@ -252,16 +220,9 @@ module _ {w : List ℕ} {h id index : ℕ} (q : RemoveReady w (suc h) id index) 
           ap length (law .list),
           length-removeAt (flat h K) (D .sub) (omega (arith, flat-length h K KF, L .below)),
         ) in
-        omega (
-          arith,
-          e,
-          k,
-          ap (total (size h)) (set-split (D .node .kids) (D .child) (R .tree) (L .child)),
-          total-append (size h) (take (D .child) (D .node .kids)) (R .tree ∷ drop (suc (D .child)) (D .node .kids)),
-          total-at (size h) (D .node .kids) (D .child) (none h) (L .child),
-        )
+        omega (arith, e, k, total-set (size h) (D .node .kids) (D .child) (none h) (R .tree) (L .child))
 
-    pub removed : (old : ℕ) (w₃ : List ℕ) → ((u : UpReady w₂ id r) → Up w₂ w₃ id r (b .old) (u .node) old)
+    removed : (old : ℕ) (w₃ : List ℕ) → ((u : UpReady w₂ id r) → Up w₂ w₃ id r (b .old) (u .node) old)
         → Removes w w₃ (suc h) t f (remove (suc h) t index f) (record { old = old; freed = r .freed + b .freed })
     unfolding up-ready s seats
     removed old w₃ up =
@@ -279,29 +240,21 @@ module _ {w : List ℕ} {h id index : ℕ} (q : RemoveReady w (suc h) id index) 
           map-set-same (idOf h) (D .node .kids) (D .child) (R .tree) (none h) (remove-id h K (D .sub) (D .free) KF KS (L .below)),
         ) refl in
         let F : Fit (suc h) s = rw (remove-raised h t index f) at (remove-law (suc h) t index f (q .owns .fit) (q .some) (q .below) .fit) in
-        let U : Wrote w₂ w₃ id X =
-        wrote X (up-ready .node .stored .inside) (length-rootBlock (suc h) s F) (P .words ∙ ap (withBlock w₂ id) is) in
-        let both = untouched-both (C .reshaped .untouched) (U .untouched) in
-        let N = at-untouched (U .untouched) h (R .tree) (λ k l. omega (arith, holders k)) (C .reshaped .at) in
-        let G = chain-untouched (U .untouched) (R .free) (U .chain) (λ k l. omega (arith, holders k)) (C .reshaped .chain) in
-        let step = rebuilt O both (D .child) (suc (D .child)) (R .tree ∷ []) s (set-split (D .node .kids) (D .child) (R .tree) (L .child))
-        (λ k. omega (arith, holders k, count-append k (ids h K ++ D .free) (id ∷ [])))
-        (λ k z. omega (arith, holders k, count-append k (ids h K ++ D .free) (id ∷ [])))
-        (stored-as here (U .stored)) (cons N nil) G in
+        let W = wrote-same here refl (wrote (P .words ∙ ap (withBlock w₂ id) is) (up-ready .node .stored .inside) (length-rootBlock (suc h) s F)) in
         rw (remove-raised h t index f) (record {
           old = P .given ∙ rw (M .swaps, M .at, C .old) refl;
           freed = omega (arith, M .freed, C .freed);
-          reshaped = reshaped-both (L .same .nodes) (M .reshaped) step;
+          reshaped = reshaped-both (M .reshaped) (L .same .nodes) (kid-reshaped O (D .child) (L .child) (s .elems) (C .reshaped) (law .nodes) W);
         })
 
 -- ---- the same at any number of levels
 
 -- what the calls ensure
-abbrev pub WentDown : List ℕ → List ℕ → ℕ → ℕ → Descent → Type 0
+abbrev WentDown : List ℕ → List ℕ → ℕ → ℕ → Descent → Type 0
 WentDown w w₁ id index r =
     (s : DownReady w id index) → Went w w₁ (s .height) (s .ready .tree) (s .ready .free) (descend (s .height) (s .ready .tree) index (s .ready .free)) r
 
-abbrev pub CutOut : List ℕ → List ℕ → ℕ → ℕ → ℕ → Cut → Type 0
+abbrev CutOut : List ℕ → List ℕ → ℕ → ℕ → ℕ → Cut → Type 0
 CutOut w w′ levels id index b =
     (s : RemoveReady w levels id index) → Removes w w′ levels (s .tree) (s .free) (remove levels (s .tree) index (s .free)) b
 

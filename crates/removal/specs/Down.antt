@@ -2,15 +2,13 @@
 use mathlib.Core.Path.{_≡_}
 use mathlib.Core.Bool.{Bool, true, false, cond}
 use mathlib.Core.List.{List, _∷_}
-use Prim.Native.Nat.{ℕ, suc, _+_, _-_, _≤_, _<_}
+use Prim.Native.Nat.{ℕ, suc, _+_, _-_, _<_}
 use lib.ListN.{length, getD, set}
 use Rattle.model.specs.Tree.{Tree, kid, size, find, before}
-use Rattle.model.specs.Fit.{Fit}
 use Rattle.model.specs.Remove.{merge, Filled, fill, Shrunk, back, swapped, wayFor}
 use Rattle.model.specs.declared.Way.{Way}
 use Rattle.model.specs.declared.Way.the-variants.{Inside, ByLast, ByFirst, ByMerge}
 use Rattle.pool.specs.Layout.{nodeBlock, withBlock}
-use Rattle.pool.specs.Parts.{At}
 use Rattle.tree.specs.Node.{Node}
 use Rattle.tree.specs.Stands.{Reshaped}
 use Rattle.removal.specs.declared.Descent.{Descent}
@@ -63,18 +61,6 @@ pub record Went (w w′ : List ℕ) (h : ℕ) (t : Tree (suc h)) (f : List ℕ) 
   pub at : r .at ≡ d .at
   pub freed : length f + r .freed ≡ length (d .free)
   pub reshaped : Reshaped w w′ (suc h) t f (d .node) (d .free)
-
--- a node with children, and an index in it: it may have lost its last element to a merge
-pub record Enters (w : List ℕ) (id index : ℕ) : Type 0 where
-  pub height : ℕ
-  pub tree : Tree (suc height)
-  pub at : At w (suc height) tree
-  pub fit : Fit (suc height) tree
-  pub here : tree .id ≡ id
-  pub upto : index ≤ size (suc height) tree
-
-abbrev pub into : (h : ℕ) → Tree (suc h) → ℕ → ℕ → Descent
-into h t i n = record { id = kid h t (find h t i .child) .id; index = find h t i .sub; swaps = false; at = 0; freed = n }
 
 -- one element below node id is gone
 pub record UpReady (w : List ℕ) (id : ℕ) (d : Descent) : Type 0 where

@@ -1,10 +1,9 @@
 // Removal from a tree that is known to stand in the pool.
-ghost use mathlib.Core.Path.{_≡_};
 ghost use Rattle.model.specs.Tree.{rooted};
 ghost use Rattle.model.specs.Remove.{remove, lowered};
 ghost use Rattle.tree.specs.Stands.{Became};
 ghost use Rattle.removal.specs.Ready.{RemoveReady, Removes, LowerReady, BagHas, BagRemoves};
-ghost use Rattle.removal.specs.Down.{descend, DownReady, Went, Enters, into, UpReady, Up};
+ghost use Rattle.removal.specs.Down.{descend, DownReady, Went, UpReady, Up};
 use pool::LENGTH;
 use pool::NODE_WORDS;
 use tree::Known;
@@ -33,25 +32,7 @@ pub struct Descent {
 
 // ---- one level of a removal, and all levels
 
-// The way into the child of node id that has the index, after n nodes were freed.
-fn enter(pool: &[u64], id: usize, index: usize, n: usize) -> Descent
-    requires { ⌜ Enters (now pool) id index ⌝ }
-    ensures { λ r. ⌜ ((s : Enters (now (pool .entry)) id index) → r ≡ into (s .height) (s .tree) index n) ⌝ }
-{
-    let a = pool::start_of(id);
-    let node = &pool[a..a + NODE_WORDS];
-    let p = pool::find_child_index(pool, node, index);
-    let k = pool::kid(node, p.child);
-    Descent {
-        id: k,
-        index: p.sub,
-        swaps: false,
-        at: 0,
-        freed: n,
-    }
-}
-
-// The way of a removal through node id, until it goes below.
+// The way of a removal through node id, until it goes below. After a child was filled the search is made again.
 fn go_down(pool: &mut [u64], id: usize, index: usize) -> Descent
     requires { ⌜ DownReady (now pool) id index ⌝ }
     ensures { λ r. ⌜ ((s : DownReady (now (pool .entry)) id index) → Went (now (pool .entry)) (now (pool .exit))
@@ -60,8 +41,15 @@ fn go_down(pool: &mut [u64], id: usize, index: usize) -> Descent
     let t = tree::way_to(pool, id, index);
     let c = t.child;
     if !t.separator {
-        let n = repair::fill(pool, id, c);
-        return enter(pool, id, index, n);
+        let freed = repair::fill(pool, id, c);
+        let u = tree::way_to(pool, id, index);
+        return Descent {
+            id: u.id,
+            index: u.sub,
+            swaps: false,
+            at: 0,
+            freed,
+        };
     }
     if !repair::is_thin(pool, id, c) {
         return Descent {
@@ -73,7 +61,7 @@ fn go_down(pool: &mut [u64], id: usize, index: usize) -> Descent
         };
     }
     if !repair::is_thin(pool, id, c + 1) {
-        let k = repair::child(pool, id, c + 1);
+        let k = tree::child(pool, id, c + 1);
         return Descent {
             id: k,
             index: 0,

@@ -1,25 +1,25 @@
 -- What is done for a child that has no element to spare: how it is found out, and what each repair asks and leaves.
 use mathlib.Core.Path.{_≡_, refl, sym, ap, subst, _∙_}
 use mathlib.Core.Bool.{Bool, true, false}
-use mathlib.Core.List.{List, [], _∷_}
+use mathlib.Core.List.{List, _∷_}
 use mathlib.Core.Logic.{_⊎_, inl, inr}
 use Prim.Native.Nat.{ℕ, suc, _+_, _-_, _≤_, _<_}
 use native.Mathlib.Decide.{decLt}
 use native.Mathlib.Omega.{arith}
 use borrow.Author.Tests.{lt-ltb, le-ltb}
 use lib.Dec.{leb}
-use lib.ListN.{length}
+use lib.ListN.{length, getD}
 use Rattle.model.specs.Tree.{Tree, kid}
-use Rattle.model.specs.Remove.{isThin, merge, borrowLeft, borrowRight, repairFor, repaired, Filled, fill}
+use Rattle.model.specs.Remove.{isThin, merge, borrowLeft, borrowRight, repairFor, repaired, fill}
 use Rattle.model.specs.declared.Repair.{Repair}
 use Rattle.model.specs.declared.Repair.the-variants.{Nothing, FromLeft, FromRight, WithLeft, WithRight}
 use Rattle.model.proofs.Fill.{Says, says}
 use Rattle.pool.specs.Parts.{Inside, countAt}
 use Rattle.pool.proofs.Node.{at-count}
 use Rattle.tree.specs.Stands.{Reshaped}
-use Rattle.tree.proofs.Lending.{reshaped-same}
-use Rattle.repair.specs.Ready.{PairReady, Few, LeftLends, RightLends, FillReady}
-use Rattle.repair.specs.Ready.{Fills}
+use Rattle.tree.specs.Lookup.{HasKid}
+use Rattle.tree.proofs.Edits.{child-is, reshaped-none}
+use Rattle.repair.specs.Ready.{PairReady, Few, LeftLends, RightLends, FillReady, Fills}
 
 -- child d has no element to spare, or has one
 abbrev pub ThinIs : List ℕ → ℕ → ℕ → Bool → Type 0
@@ -37,13 +37,16 @@ module _ {w : List ℕ} {id c : ℕ} (s : FillReady w id c) where
   sibling d l = record { height = h; tree = t; free = s .free; owns = s .owns; here = s .here; some = s .some; place = l }
 
   -- the count of child c, which is in node k
-  module _ (k : ℕ) (ek : (q : FillReady w id c) → k ≡ kid (q .height) (q .tree) c .id) where
+  module _ (k : ℕ) (ek : (q : HasKid w id c) → k ≡ getD (q .node .kids) c 0) where
+    is : kid h t c .id ≡ k
+    is = child-is (s .owns) (s .here) (s .place) k ek
+
     pub kid-inside : Inside w k
-    kid-inside = rw (ek s) (s .owns .at .each c (s .place) .here .inside)
+    kid-inside = subst (Inside w) is (s .owns .at .each c (s .place) .here .inside)
 
     pub thin-is : (n : ℕ) → n ≡ countAt w k → leb n 15 ≡ isThin h (kid h t c)
     unfolding isThin
-    thin-is n e = rw (e, ek s, at-count w h (kid h t c) (s .owns .at .each c (s .place) .here)) refl
+    thin-is n e = rw (e, ← is, at-count w h (kid h t c) (s .owns .at .each c (s .place) .here)) refl
 
   pub count-is : (m : ℕ) → m ≡ countAt w id → m + 1 ≡ length (t .kids)
   count-is m e =
@@ -177,4 +180,4 @@ module _ {w : List ℕ} {id c : ℕ} (a : Repair) (ea : (q : FillReady w id c) �
 
   pub nothing-done : a ≡ Nothing → Fills w w (s .height) (s .tree) (s .free) (fill (s .height) (s .tree) c (s .free)) 0
   unfolding repaired
-  nothing-done e = by w Nothing e 0 (record { count = omega arith; reshaped = reshaped-same (s .owns) })
+  nothing-done e = by w Nothing e 0 (record { count = omega arith; reshaped = reshaped-none (s .owns) })

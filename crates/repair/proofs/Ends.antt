@@ -1,5 +1,5 @@
 -- A node's child slots and what is below them, leaf or not; and the two ends of a node, from which a piece goes to a neighbour.
-use mathlib.Core.Path.{_≡_, refl, sym, ap, ap₂, subst, _∙_}
+use mathlib.Core.Path.{_≡_, refl, sym, ap, subst, _∙_}
 use mathlib.Core.List.{List, [], _∷_, _++_, map, map-append, append-nil}
 use mathlib.Core.Logic.{_≢_}
 use Prim.Native.Nat.{ℕ, zero, suc, _+_, _-_, _≤_, _<_}
@@ -8,9 +8,9 @@ use native.Mathlib.Omega.{arith}
 use lib.ListN.{length, take, drop, getD, replicate, length-append, length-drop, length-map, length-replicate, getD-replicate, List·getD-map}
 use lib.ListN.{take-append-drop, drop-of-length-le, replicate-append-replicate}
 use lib.Seq.{take-length, drop-length, drop-cons}
-use Rattle.lists.specs.Lists.{sum, insertAt, removeAt, butLast, last}
+use Rattle.lists.specs.Lists.{sum, insertAt, removeAt, butLast}
 use Rattle.lists.proofs.Sums.{total, total-append}
-use Rattle.lists.proofs.Edits.{length-insertAt, length-removeAt}
+use Rattle.lists.proofs.Edits.{length-insertAt, length-removeAt, map-removeAt}
 use Rattle.model.specs.Tree.{Tree, Below, kid, none, size}
 use Rattle.model.specs.Fit.{Fit}
 use Rattle.model.specs.Remove.{joined, gaveLast, tookFront, gaveFirst, tookBack}
@@ -18,41 +18,33 @@ use Rattle.model.proofs.Nodes.{most}
 use Rattle.pool.specs.Layout.{slots, nodeBlock, idOf, rootBlock}
 use Rattle.pool.specs.Parts.{Inside, Stored, At}
 use Rattle.pool.proofs.Node.{at-length}
-use Rattle.tree.specs.Node.{Node}
 use Rattle.repair.specs.Pieces.{Seated, lengthOr}
 use Rattle.repair.proofs.Pieces.{some-node}
 
 -- ---- lists: the last element out, one more in at the end, and the element at an end by itself
 
 module _ {A : Type 0} where
-  pub last-out : (xs : List A) (m : ℕ) → length xs ≡ suc m → butLast xs ≡ removeAt xs m
+  last-out : (xs : List A) (m : ℕ) → length xs ≡ suc m → butLast xs ≡ removeAt xs m
   unfolding butLast removeAt
   last-out xs m e =
       let n : length xs - 1 ≡ m = omega arith in
       rw (n, drop-of-length-le xs {i = suc m} (omega arith), append-nil)
 
-  pub end-in : (xs : List A) (x : A) → insertAt xs (length xs) x ≡ xs ++ (x ∷ [])
+  end-in : (xs : List A) (x : A) → insertAt xs (length xs) x ≡ xs ++ (x ∷ [])
   unfolding insertAt
   end-in xs x = rw (take-length xs, drop-length xs)
 
-  pub last-one : (xs : List A) (m : ℕ) (d : A) → length xs ≡ suc m → drop (length xs - 1) xs ≡ getD xs m d ∷ []
+  last-one : (xs : List A) (m : ℕ) (d : A) → length xs ≡ suc m → drop (length xs - 1) xs ≡ getD xs m d ∷ []
   last-one xs m d e =
       let n : length xs - 1 ≡ m = omega arith in
       rw (n, drop-cons xs m d (omega arith), drop-of-length-le xs {i = suc m} (omega arith))
 
-  pub first-one : (xs : List A) (d : A) → 0 < length xs → take 1 xs ≡ getD xs 0 d ∷ []
+  first-one : (xs : List A) (d : A) → 0 < length xs → take 1 xs ≡ getD xs 0 d ∷ []
   first-one [] d l = absurd (omega arith)
   first-one (x ∷ xs) d l = refl
 
-pub map-removeAt : {A B : Type 0} (f : A → B) (xs : List A) (i : ℕ) → map f (removeAt xs i) ≡ removeAt (map f xs) i
-unfolding removeAt
-map-removeAt f [] zero = refl
-map-removeAt f [] (suc i) = refl
-map-removeAt f (x ∷ xs) zero = refl
-map-removeAt {B = B} f (x ∷ xs) (suc i) = ap (λ (ys : List B). f x ∷ ys) (map-removeAt f xs i)
-
 -- zeros without one, and with one more
-pub zeros-out : (n j : ℕ) → j ≤ n → removeAt (replicate {A = ℕ} (suc n) 0) j ≡ replicate n 0
+zeros-out : (n j : ℕ) → j ≤ n → removeAt (replicate {A = ℕ} (suc n) 0) j ≡ replicate n 0
 unfolding removeAt
 zeros-out n zero l = refl
 zeros-out zero (suc j) l = absurd (omega arith)
@@ -110,16 +102,16 @@ seated {w} {h} {t} {k} T = record {
 
 -- ---- what is below children
 
-pub sizes : (h : ℕ) → List (Below h) → ℕ
+sizes : (h : ℕ) → List (Below h) → ℕ
 sizes zero ks = 0
 sizes (suc h) ks = total (size h) ks
 
-pub size-sizes : (h : ℕ) (t : Tree h) → size h t ≡ length (t .elems) + sizes h (t .kids)
+size-sizes : (h : ℕ) (t : Tree h) → size h t ≡ length (t .elems) + sizes h (t .kids)
 unfolding size sizes
 size-sizes zero t = omega arith
 size-sizes (suc h) t = refl
 
-pub sizes-append : (h : ℕ) (xs ys : List (Below h)) → sizes h (xs ++ ys) ≡ sizes h xs + sizes h ys
+sizes-append : (h : ℕ) (xs ys : List (Below h)) → sizes h (xs ++ ys) ≡ sizes h xs + sizes h ys
 unfolding sizes
 sizes-append zero xs ys = omega arith
 sizes-append (suc h) xs ys = total-append (size h) xs ys

@@ -1,40 +1,26 @@
 -- A piece that goes from one node through the separator of a second to a third: what each step asks, and the words in the end.
-use mathlib.Core.Path.{_≡_, refl, sym, ap, _∙_}
+use mathlib.Core.Path.{_≡_, sym, _∙_}
 use mathlib.Core.List.{List, [], _∷_}
-use mathlib.Core.Logic.{_≢_}
-use Prim.Native.Nat.{ℕ, _+_, _-_, _^_, _≤_, _<_}
+use Prim.Native.Nat.{ℕ, _+_, _-_, _^_, _<_}
 use native.Mathlib.Omega.{arith}
-use lib.ListN.{length, getD, set, length-set}
+use lib.ListN.{getD, set, length-set}
 use Rattle.lists.specs.Lists.{count, insertAt, removeAt}
 use Rattle.lists.proofs.Edits.{length-insertAt, length-removeAt}
-use Rattle.lists.proofs.Counts.{count-append, count-nil}
-use Rattle.pool.specs.Layout.{nodeWords, withBlock, nodeBlock}
+use Rattle.lists.proofs.Counts.{count-other, one-other}
+use Rattle.pool.specs.Layout.{withBlock, nodeBlock}
 use Rattle.pool.specs.Chain.{Untouched}
 use Rattle.pool.proofs.Blocks.{length-nodeBlock}
-use Rattle.pool.proofs.Frame.{untouched-both}
-use Rattle.pool.proofs.Areas.{count-other, Wrote, wrote, stored-untouched}
+use Rattle.pool.proofs.Frame.{stored-untouched, untouched-both, Wrote, wrote}
 use Rattle.tree.specs.Node.{Node}
 use Rattle.tree.specs.Lookup.{HasElement, Swapped}
+use Rattle.tree.proofs.Edits.{node-untouched}
 use Rattle.repair.specs.declared.Piece.{Piece}
 use Rattle.repair.specs.declared.End.{End}
 use Rattle.repair.specs.Pieces.{Seated, Takes, TookOut, Puts, putIn, lengthOr, HasSlot, Lends, Lent}
 
 -- a node after an edit of others
-abbrev pub node-kept : {w w′ own : List ℕ} {k : ℕ} → Untouched w w′ own → count k own ≡ 0 → Node w k → Node w′ k
-node-kept U z m = record {
-  size = m .size;
-  elems = m .elems;
-  kids = m .kids;
-  stored = stored-untouched U z (m .stored);
-  few-elems = m .few-elems;
-  few-kids = m .few-kids;
-}
-
 abbrev pub seated-kept : {w w′ own : List ℕ} {k : ℕ} → Untouched w w′ own → count k own ≡ 0 → Seated w k → Seated w′ k
-seated-kept U z s = record { node = node-kept U z (s .node); seats = s .seats }
-
-pub other : (k j : ℕ) → k ≢ j → count k (j ∷ []) ≡ 0
-other k j n = count-other k j [] n ∙ count-nil k
+seated-kept U z s = record { node = node-untouched U z (s .node); seats = s .seats }
 
 module _ {w : List ℕ} {id c : ℕ} {from to : End} (s : Lends w id c from to)
     (r : ℕ) (er : (q : HasSlot w (from .node) (from .kid)) → r ≡ lengthOr w (getD (q .seated .node .kids) (from .kid) 0)) where
@@ -75,13 +61,12 @@ module _ {w : List ℕ} {id c : ℕ} {from to : End} (s : Lends w id c from to)
     one =
         let le = length-removeAt (a .elems) (from .elem) (s .elem) in
         let lk = length-removeAt (a .kids) (from .kid) (omega (arith, s .lender .place, s .lender .seated .seats)) in
-        wrote X (a .stored .inside)
+        wrote (T .words) (a .stored .inside)
         (length-nodeBlock (a .size - (r + 1)) (removeAt (a .elems) (from .elem)) (removeAt (a .kids) (from .kid)) (omega (arith, a .few-elems))
         (omega (arith, a .few-kids)))
-        (T .words)
 
     pub lend-swap : HasElement w₁ id c
-    lend-swap = record { node = node-kept (one .untouched) (other id (from .node) (λ q. s .from-below (sym q))) e; below = s .parent .below }
+    lend-swap = record { node = node-untouched (one .untouched) (one-other id (from .node) (λ q. s .from-below (sym q))) e; below = s .parent .below }
 
     module _ (x : ℕ) (w₂ : List ℕ) (swapped : (q : HasElement w₁ id c) → Swapped w₁ w₂ id c (p .elem) (q .node) x) where
       abbrev Y : List ℕ
@@ -90,16 +75,15 @@ module _ {w : List ℕ} {id c : ℕ} {from to : End} (s : Lends w id c from to)
       two : Wrote w₁ w₂ id Y
       unfolding lend-swap
       two =
-          wrote Y (lend-swap .node .stored .inside)
+          wrote (swapped lend-swap .words) (lend-swap .node .stored .inside)
           (length-nodeBlock (e .size) (set (e .elems) c (p .elem)) (e .kids) (omega (arith, length-set (e .elems) c (p .elem), e .few-elems)) (e .few-kids))
-          (swapped lend-swap .words)
 
       both : Untouched w w₂ (from .node ∷ (id ∷ []))
       both = untouched-both (one .untouched) (two .untouched)
 
       pub lend-put : Puts w₂ (to .node) (to .elem) (to .kid) (r + 1)
       lend-put = record {
-        seated = seated-kept both (count-other (to .node) (from .node) (id ∷ []) (λ q. s .apart (sym q)) ∙ other (to .node) id (s .to-below))
+        seated = seated-kept both (count-other (to .node) (from .node) (id ∷ []) (λ q. s .apart (sym q)) ∙ one-other (to .node) id (s .to-below))
             (s .taker);
         elem = s .new-elem;
         kid = s .new-kid;
@@ -117,14 +101,13 @@ module _ {w : List ℕ} {id c : ℕ} {from to : End} (s : Lends w id c from to)
           let le = length-insertAt (b .elems) (to .elem) x (s .new-elem) in
           let lk = length-insertAt (b .kids) (to .kid) (p .kid) (omega (arith, s .new-kid, s .taker .seats)) in
           let three : Wrote w₂ w₃ (to .node) Z =
-          wrote Z (lend-put .seated .node .stored .inside)
+          wrote (put lend-put) (lend-put .seated .node .stored .inside)
           (length-nodeBlock (b .size + (r + 1)) (insertAt (b .elems) (to .elem) x) (insertAt (b .kids) (to .kid) (p .kid)) (omega (arith, s .room))
-          (omega (arith, s .room, s .taker .seats)))
-          (put lend-put) in
+          (omega (arith, s .room, s .taker .seats))) in
           record {
-            lender = rw (← is) (stored-untouched (three .untouched) (other (from .node) (to .node) (s .apart))
-                (stored-untouched (two .untouched) (other (from .node) id (s .from-below)) (one .stored)));
-            parent = rw (← (T .elem)) (stored-untouched (three .untouched) (other id (to .node) (λ q. s .to-below (sym q))) (two .stored));
+            lender = rw (← is) (stored-untouched (three .untouched) (one-other (from .node) (to .node) (s .apart))
+                (stored-untouched (two .untouched) (one-other (from .node) id (s .from-below)) (one .stored)));
+            parent = rw (← (T .elem)) (stored-untouched (three .untouched) (one-other id (to .node) (λ q. s .to-below (sym q))) (two .stored));
             taker = rw (← is, ← (T .kid), ← (swapped lend-swap .given)) (three .stored);
             untouched = untouched-both both (three .untouched);
             chain = three .chain ∙ two .chain ∙ one .chain;

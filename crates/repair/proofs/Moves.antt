@@ -1,45 +1,34 @@
 -- Merge and the two borrows: what each step asks, and the tree that stands in the end.
-use mathlib.Core.Path.{_≡_, refl, sym, ap, subst, _∙_}
+use mathlib.Core.Path.{_≡_, refl, sym, ap, _∙_}
 use mathlib.Core.List.{List, [], _∷_, _++_, map}
 use mathlib.Core.Logic.{_≢_}
 use Prim.Native.Nat.{ℕ, suc, _+_, _-_, _^_, _≤_, _<_}
 use native.Mathlib.Omega.{arith}
-use lib.ListN.{length, take, drop, getD, set, length-append, length-set, List·getD-map}
+use lib.ListN.{length, getD, set, length-append, List·getD-map}
 use Rattle.lists.specs.Lists.{count, removeAt, last, butLast}
 use Rattle.lists.proofs.All.{All, nil, cons, all-append, all-take, all-drop}
-use Rattle.lists.proofs.Edits.{length-removeAt}
-use Rattle.lists.proofs.Counts.{count-append}
-use Rattle.model.specs.Tree.{Tree, Below, kid, none, size}
-use Rattle.model.specs.Fit.{Fit}
+use Rattle.lists.proofs.Counts.{count-append, one-other}
+use Rattle.model.specs.Tree.{Tree, kid, none, size}
 use Rattle.model.specs.Remove.{joined, merge, withPair, gaveLast, tookFront, gaveFirst, tookBack, borrowLeft, borrowRight}
 use Rattle.model.proofs.Fill.{merge-law, borrow-left-law, borrow-right-law}
-use Rattle.model.proofs.Nodes.{most}
 use Rattle.pool.specs.Layout.{chainWord, nodeWords, withBlock, nodeBlock, idOf, kidIds, rootBlock}
-use Rattle.pool.specs.Parts.{Inside, Stored, At, ChainAt, countAt}
+use Rattle.pool.specs.Parts.{Inside, Stored, ChainAt, countAt}
 use Rattle.pool.specs.Chain.{Untouched, Gave}
 use Rattle.pool.proofs.Node.{at-count}
-use Rattle.pool.proofs.Frame.{untouched-both}
+use Rattle.pool.proofs.Frame.{stored-untouched, untouched-both, Wrote, wrote, stored-same}
 use Rattle.pool.proofs.Blocks.{length-nodeBlock, length-rootBlock}
-use Rattle.pool.proofs.Areas.{Wrote, wrote, stored-untouched}
-use Rattle.tree.specs.Node.{Node}
+use Rattle.tree.specs.Lookup.{HasKid}
 use Rattle.tree.specs.Stands.{Owns, Reshaped}
-use Rattle.tree.proofs.Lending.{KidAt, kids-at}
+use Rattle.tree.proofs.Edits.{KidAt, tree-at}
 use Rattle.repair.specs.declared.Piece.{Piece}
 use Rattle.repair.specs.declared.End.{End}
-use Rattle.repair.specs.Ready.{PairReady, Few, LeftLends, RightLends, FillReady}
-use Rattle.repair.specs.Pieces.{Takes, TookOut, Joins, lengthOr, HasSlot, Lends, Lent}
+use Rattle.repair.specs.Ready.{PairReady, Few, LeftLends, RightLends}
+use Rattle.repair.specs.Pieces.{Takes, TookOut, Joins, lengthOr, Lends, Lent}
 use Rattle.repair.proofs.Ends.{seats, seats-length, In, seated, slot-inside, join-block}
 use Rattle.repair.proofs.Ends.{last-less, last-given, front-taken, first-less, first-given, back-taken}
-use Rattle.repair.proofs.Lending.{other, seated-kept}
-use Rattle.repair.proofs.Pairing.{left-is, right-is, Pair, top-in, left-in, right-in, pair-sizes, pair-ids, merged-ids}
+use Rattle.repair.proofs.Lending.{seated-kept}
+use Rattle.repair.proofs.Pairing.{pair-is, Pair, top-in, left-in, right-in, pair-sizes, pair-ids, merged-ids}
 use Rattle.repair.proofs.Pairing.{left-below, right-below, left-right, right-in-use, left-kids, right-kids, pair-chain, pair-rebuilt}
-
-pub stored-as : {w ys : List ℕ} {i k : ℕ} → i ≡ k → Stored w k ys → Stored w i ys
-stored-as {w} {ys} e S = subst (λ n. Stored w n ys) (sym e) S
-
--- a tree from its own words and its children
-tree-at : {w : List ℕ} (h : ℕ) (t : Tree h) (k : ℕ) → t .id ≡ k → Stored w k (rootBlock h t) → All (KidAt w h) (t .kids) → At w h t
-tree-at {w} h t k e S K = record { here = stored-as e S; each = kids-at w h K }
 
 pub root-is : (h : ℕ) (t : Tree (suc h)) → rootBlock (suc h) t ≡ nodeBlock (size (suc h) t) (t .elems) (map (idOf h) (t .kids))
 unfolding rootBlock kidIds
@@ -50,7 +39,7 @@ count-three k x y z = omega (arith, count-append k (x ∷ []) (y ∷ (z ∷ []))
 
 -- ---- merge, in the order of the code
 
-module _ {w : List ℕ} {id c : ℕ} (s : PairReady Few w id c) (l : ℕ) (hl : (q : FillReady w id c) → l ≡ kid (q .height) (q .tree) c .id) where
+module _ {w : List ℕ} {id c : ℕ} (s : PairReady Few w id c) (l : ℕ) (hl : (q : HasKid w id c) → l ≡ getD (q .node .kids) c 0) where
   abbrev h : ℕ
   h = s .height
 
@@ -81,7 +70,7 @@ module _ {w : List ℕ} {id c : ℕ} (s : PairReady Few w id c) (l : ℕ) (hl : 
       owns = O;
       place = s .place;
       top = s .here;
-      left = left-is s l hl;
+      left = pair-is s c (omega arith) l hl;
       right = sym (took merge-take .kid ∙ List·getD-map (idOf h) (t .kids) (c + 1) (none h));
     }
 
@@ -93,13 +82,12 @@ module _ {w : List ℕ} {id c : ℕ} (s : PairReady Few w id c) (l : ℕ) (hl : 
         let size-is : size (suc h) t - 0 ≡ size (suc h) t = omega arith in
         let is : nodeBlock (size (suc h) t - 0) (removeAt (t .elems) c) (removeAt (map (idOf h) (t .kids)) (c + 1)) ≡ rootBlock (suc h) (merge h t c) =
         rw (size-is, root-is h (merge h t c), M .sized, merged-ids Q (joined A (getD (t .elems) c 0) B) (Q .left)) refl in
-        wrote (rootBlock (suc h) (merge h t c)) (rw (s .here) at (O .at .here .inside))
-        (length-rootBlock (suc h) (merge h t c) (M .fit)) (took merge-take .words ∙ ap (withBlock w id) is)
+        wrote (took merge-take .words ∙ ap (withBlock w id) is) (rw (s .here) at (O .at .here .inside)) (length-rootBlock (suc h) (merge h t c) (M .fit))
 
     pub merge-append : Joins w₁ l (p .kid)
     merge-append = record {
-      left = seated-kept (one .untouched) (other l id (left-below Q)) (seated (left-in Q));
-      right = seated-kept (one .untouched) (other (p .kid) id (right-below Q)) (seated (right-in Q));
+      left = seated-kept (one .untouched) (one-other l id (left-below Q)) (seated (left-in Q));
+      right = seated-kept (one .untouched) (one-other (p .kid) id (right-below Q)) (seated (right-in Q));
       apart = left-right Q;
       room = s .counts;
       small = omega (arith, pair-sizes Q, O .small);
@@ -118,11 +106,10 @@ module _ {w : List ℕ} {id c : ℕ} (s : PairReady Few w id c) (l : ℕ) (hl : 
           rw is (length-nodeBlock (size h A + size h B + 1) (A .elems ++ (x ∷ B .elems)) (seats h A ++ seats h B)
           (omega (arith, length-append (A .elems) (x ∷ B .elems)))
           (omega (arith, length-append (seats h A) (seats h B), seats-length h A (left-in Q .fit), seats-length h B (right-in Q .fit)))) in
-          wrote (rootBlock h (joined A x B)) (merge-append .left .node .stored .inside) long
-          (appended merge-append ∙ rw (took merge-take .elem) (ap (withBlock w₁ l) (sym is)))
+          wrote (appended merge-append ∙ rw (took merge-take .elem) (ap (withBlock w₁ l) (sym is))) (merge-append .left .node .stored .inside) long
 
       pub merge-give : Inside w₂ (p .kid)
-      merge-give = stored-untouched (two .untouched) (other (p .kid) l (λ q. left-right Q (sym q))) (merge-append .right .node .stored) .inside
+      merge-give = stored-untouched (two .untouched) (one-other (p .kid) l (λ q. left-right Q (sym q))) (merge-append .right .node .stored) .inside
 
       pub merged : (w₃ : List ℕ) → ((f : List ℕ) → ChainAt w₂ f → count (p .kid) f ≡ 0 → Gave w₂ f (p .kid) w₃)
           → Reshaped w w₃ (suc h) t (s .free) (merge h t c) (B .id ∷ s .free)
@@ -136,12 +123,12 @@ module _ {w : List ℕ} {id c : ℕ} (s : PairReady Few w id c) (l : ℕ) (hl : 
           let three : (k : ℕ) → count k (id ∷ (l ∷ (r ∷ []))) ≤ count k (id ∷ []) + (count k (l ∷ []) + count k (r ∷ [])) =
           (λ k. omega (arith, count-three k id l r)) in
           let J : Tree h = joined A (getD (t .elems) c 0) B in
-          let top = stored-untouched (G .untouched) (other id r (λ q. right-below Q (sym q)))
-          (stored-untouched (two .untouched) (other id l (λ q. left-below Q (sym q))) (one .stored)) in
-          let J-at = tree-at h J l (Q .left) (stored-untouched (G .untouched) (other l r (left-right Q)) (two .stored))
+          let top = stored-untouched (G .untouched) (one-other id r (λ q. right-below Q (sym q)))
+          (stored-untouched (two .untouched) (one-other id l (λ q. left-below Q (sym q))) (one .stored)) in
+          let J-at = tree-at h J (Q .left) refl (stored-untouched (G .untouched) (one-other l r (left-right Q)) (two .stored))
           (all-append (left-kids Q U three) (right-kids Q U three)) in
           rw (Q .right)
-          (pair-rebuilt Q U three (J ∷ []) (merge h t c) (r ∷ s .free) refl (stored-as (s .here) top) (cons J-at nil) (G .chain))
+          (pair-rebuilt Q U three (J ∷ []) (merge h t c) (r ∷ s .free) refl (stored-same (s .here) refl top) (cons J-at nil) (G .chain))
 
 -- ---- a piece goes from one of the pair to the other
 
@@ -157,8 +144,8 @@ module _ {w : List ℕ} {h : ℕ} {t : Tree (suc h)} {f : List ℕ} {c i l r : �
   exchanged a b x ea eb z S T R K L =
       let is : rootBlock (suc h) (withPair h t c a x b) ≡ nodeBlock (size (suc h) t) (set (t .elems) c x) (map (idOf h) (t .kids)) =
       rw (root-is h (withPair h t c a x b), z, pair-ids Q a b ea eb) refl in
-      pair-rebuilt Q U three (a ∷ (b ∷ [])) (withPair h t c a x b) f refl (rw is (stored-as (Q .top) R))
-      (cons (tree-at h a l ea S K) (cons (tree-at h b r eb T L) nil)) (pair-chain Q U three q)
+      pair-rebuilt Q U three (a ∷ (b ∷ [])) (withPair h t c a x b) f refl (stored-same (Q .top) (sym is) R)
+      (cons (tree-at h a ea refl S K) (cons (tree-at h b eb refl T L) nil)) (pair-chain Q U three q)
 
 -- one of them, x in node k, lends to y in node j
 lends-of : {w : List ℕ} {h id c k j : ℕ} {t : Tree (suc h)} {x y : Tree h} (T : In w (suc h) t id) (X : In w h x k) (Y : In w h y j)
@@ -182,10 +169,10 @@ lends-of {h = h} {x = x} T X Y place u v n few i p a b li lp less la lb room = r
 
 -- what is read for either borrow
 module _ {P : ℕ → ℕ → Type 0} {w : List ℕ} {id c : ℕ} (s : PairReady P w id c) (l r : ℕ)
-    (hl : (q : FillReady w id c) → l ≡ kid (q .height) (q .tree) c .id)
-    (hr : (q : FillReady w id (c + 1)) → r ≡ kid (q .height) (q .tree) (c + 1) .id) where
+    (hl : (q : HasKid w id c) → l ≡ getD (q .node .kids) c 0)
+    (hr : (q : HasKid w id (c + 1)) → r ≡ getD (q .node .kids) (c + 1) 0) where
   pair : Pair w (s .height) (s .tree) (s .free) c id l r
-  pair = record { owns = s .owns; place = s .place; top = s .here; left = left-is s l hl; right = right-is s r hr }
+  pair = record { owns = s .owns; place = s .place; top = s .here; left = pair-is s c (omega arith) l hl; right = pair-is s (c + 1) (omega arith) r hr }
 
   pub pair-inside : Inside w l
   pair-inside = rw (← (pair .left)) (left-in pair .at .here .inside)
@@ -204,8 +191,8 @@ abbrev frontOf : ℕ → End
 frontOf r = record { node = r; elem = 0; kid = 0 }
 
 module _ {w : List ℕ} {id c : ℕ} (l r m : ℕ)
-    (hl : (q : FillReady w id c) → l ≡ kid (q .height) (q .tree) c .id)
-    (hr : (q : FillReady w id (c + 1)) → r ≡ kid (q .height) (q .tree) (c + 1) .id) (em : m ≡ countAt w l) where
+    (hl : (q : HasKid w id c) → l ≡ getD (q .node .kids) c 0)
+    (hr : (q : HasKid w id (c + 1)) → r ≡ getD (q .node .kids) (c + 1) 0) (em : m ≡ countAt w l) where
   -- the left child lends
   module _ (s : PairReady LeftLends w id c) where
     abbrev hL : ℕ

@@ -2,7 +2,7 @@
 use mathlib.Core.Path.{_≡_, refl, sym, ap, _∙_}
 use mathlib.Core.List.{List, [], _∷_, _++_, map, map-append}
 use mathlib.Core.Logic.{_≢_}
-use Prim.Native.Nat.{ℕ, suc, _+_, _-_, _*_, _≤_, _<_}
+use Prim.Native.Nat.{ℕ, suc, _+_, _≤_, _<_}
 use native.Mathlib.Numerals.{add-one, add-two}
 use native.Mathlib.Omega.{arith}
 use lib.ListN.{length, take, drop, getD}
@@ -10,61 +10,27 @@ use lib.Seq.{take-suc, append-snoc}
 use Rattle.lists.specs.Lists.{sum, count, removeAt}
 use Rattle.lists.proofs.All.{All}
 use Rattle.lists.proofs.Sums.{total, total-append}
-use Rattle.lists.proofs.Counts.{count-self}
-use Rattle.lists.proofs.Edits.{split-two}
+use Rattle.lists.proofs.Counts.{count-self, one-same, ones-apart}
+use Rattle.lists.proofs.Edits.{split-two, map-removeAt}
 use Rattle.model.specs.Tree.{Tree, kid, none, size}
-use Rattle.model.proofs.Nodes.{held, held-inner}
-use Rattle.pool.specs.Layout.{chainWord, start, block, idOf, rootBlock}
+use Rattle.model.proofs.Nodes.{held, held-inner, held-id}
+use Rattle.pool.specs.Layout.{chainWord, idOf, rootBlock}
 use Rattle.pool.specs.Parts.{Stored, At, ChainAt}
 use Rattle.pool.specs.Chain.{Untouched}
-use Rattle.pool.proofs.Store.{block-in}
-use Rattle.pool.proofs.Node.{at-kid}
-use Rattle.pool.proofs.Areas.{chain-untouched}
+use Rattle.pool.proofs.Frame.{chain-untouched}
+use Rattle.tree.specs.Lookup.{HasKid}
 use Rattle.tree.specs.Stands.{Owns, Reshaped}
-use Rattle.tree.proofs.Lending.{KidAt, root-held, apart-nodes, kids-untouched, rebuilt}
-use Rattle.repair.specs.Ready.{PairReady, FillReady}
-use Rattle.repair.proofs.Pieces.{part}
-use Rattle.repair.proofs.Ends.{map-removeAt, In}
+use Rattle.tree.proofs.Edits.{KidAt, each-kid, kids-untouched, kids-reshaped, has-kid, child-is}
+use Rattle.repair.specs.Ready.{PairReady}
+use Rattle.repair.proofs.Ends.{In}
 
-pub child-is : {w : List ℕ} {id c : ℕ} (s : FillReady w id c) (a : ℕ) → a ≡ start id → (r : ℕ) → r ≡ getD (part w a) (33 + c) 0
-    → r ≡ kid (s .height) (s .tree) c .id
-child-is {w} {id} {c} s a ea r er =
-    let O = s .owns in
-    er ∙ ap (λ (b : List ℕ). getD b (33 + c) 0) (block-in w a id ea ∙ ap (block w) (sym (s .here)))
-    ∙ at-kid w (s .height) (s .tree) (O .at .here) (O .fit .most) c (omega (arith, s .place, O .fit .one-more, O .fit .most))
+-- the pair's children, as the words of the node name them
+module _ {P : ℕ → ℕ → Type 0} {w : List ℕ} {id c : ℕ} (s : PairReady P w id c) (d : ℕ) (m : d ≤ c + 1) where
+  abbrev pub pair-kid : HasKid w id d
+  pair-kid = has-kid (s .owns) (s .here) (omega (arith, s .place, s .owns .fit .one-more))
 
--- the pair's children, each by itself
-module _ {P : ℕ → ℕ → Type 0} {w : List ℕ} {id c : ℕ} (s : PairReady P w id c) where
-  pub left-kid : FillReady w id c
-  left-kid = record {
-    height = s .height;
-    tree = s .tree;
-    free = s .free;
-    owns = s .owns;
-    here = s .here;
-    some = omega (arith, s .place);
-    place = omega (arith, s .place, s .owns .fit .one-more);
-  }
-
-  pub right-kid : FillReady w id (c + 1)
-  right-kid = record {
-    height = s .height;
-    tree = s .tree;
-    free = s .free;
-    owns = s .owns;
-    here = s .here;
-    some = omega (arith, s .place);
-    place = omega (arith, s .place, s .owns .fit .one-more);
-  }
-
-  -- read off the words
-  pub left-is : (l : ℕ) → ((q : FillReady w id c) → l ≡ kid (q .height) (q .tree) c .id) → kid (s .height) (s .tree) c .id ≡ l
-  unfolding left-kid
-  left-is l e = sym (e left-kid)
-
-  pub right-is : (r : ℕ) → ((q : FillReady w id (c + 1)) → r ≡ kid (q .height) (q .tree) (c + 1) .id) → kid (s .height) (s .tree) (c + 1) .id ≡ r
-  unfolding right-kid
-  right-is r e = sym (e right-kid)
+  pub pair-is : (k : ℕ) → ((q : HasKid w id d) → k ≡ getD (q .node .kids) d 0) → kid (s .height) (s .tree) d .id ≡ k
+  pair-is k e = child-is (s .owns) (s .here) (omega (arith, s .place, s .owns .fit .one-more)) k e
 
 -- ---- children c and c + 1 of t, in nodes l and r, with t itself in node i
 
@@ -153,19 +119,19 @@ module _ {w : List ℕ} {h : ℕ} {t : Tree (suc h)} {f : List ℕ} {c i l r : �
       ap (total (held h k)) (split-two (t .kids) c (none h) lB),
       total-append (held h k) (take c (t .kids)) (A ∷ (B ∷ drop (suc (suc c)) (t .kids))),
     ));
-    left = rw (← (Q .left)) (root-held h k A);
-    right = rw (← (Q .right)) (root-held h k B);
+    left = rw (← (Q .left)) (held-id h k A);
+    right = rw (← (Q .right)) (held-id h k B);
     once = O .once k;
   }
 
   pub left-below : l ≢ i
-  left-below = apart-nodes l i (λ k. omega (arith, holders k))
+  left-below = ones-apart l i (λ k. omega (arith, holders k))
 
   pub right-below : r ≢ i
-  right-below = apart-nodes r i (λ k. omega (arith, holders k))
+  right-below = ones-apart r i (λ k. omega (arith, holders k))
 
   pub left-right : l ≢ r
-  left-right = apart-nodes l r (λ k. omega (arith, holders k))
+  left-right = ones-apart l r (λ k. omega (arith, holders k))
 
   pub right-in-use : count r f ≡ 0
   right-in-use = omega (arith, holders r, count-self r [])
@@ -174,15 +140,15 @@ module _ {w : List ℕ} {h : ℕ} {t : Tree (suc h)} {f : List ℕ} {c i l r : �
   module _ {w′ own : List ℕ} (U : Untouched w w′ own)
       (three : (k : ℕ) → count k own ≤ count k (i ∷ []) + (count k (l ∷ []) + count k (r ∷ []))) where
     pub left-kids : All (KidAt w′ h) (A .kids)
-    left-kids = kids-untouched U h A (λ k. rw (Q .left) (omega (arith, three k, holders k))) (left-in .at)
+    left-kids = kids-untouched U h A (λ k m. omega (arith, three k, holders k, one-same k (Q .left))) (each-kid w h (left-in .at .each))
 
     pub right-kids : All (KidAt w′ h) (B .kids)
-    right-kids = kids-untouched U h B (λ k. rw (Q .right) (omega (arith, three k, holders k))) (right-in .at)
+    right-kids = kids-untouched U h B (λ k m. omega (arith, three k, holders k, one-same k (Q .right))) (each-kid w h (right-in .at .each))
 
     pub pair-chain : getD w′ chainWord 0 ≡ getD w chainWord 0 → ChainAt w′ f
-    pair-chain q = chain-untouched U f q (λ k m. omega (arith, three k, holders k)) (O .chain)
+    pair-chain q = chain-untouched U (λ k m. omega (arith, three k, holders k)) q (O .chain)
 
     pub pair-rebuilt : (new : List (Tree h)) (s : Tree (suc h)) (g : List ℕ) → s .kids ≡ take c (t .kids) ++ (new ++ drop (c + 2) (t .kids))
         → Stored w′ (s .id) (rootBlock (suc h) s) → All (At w′ h) new → ChainAt w′ g → Reshaped w w′ (suc h) t f s g
     pair-rebuilt new s g e S N C =
-        rebuilt O U c (c + 2) new s e (λ k. omega (arith, three k, holders k)) (λ k z. omega (arith, three k, holders k)) S N C
+        kids-reshaped O U c (c + 2) new s e (λ k m. omega (arith, three k, holders k)) (λ k z. omega (arith, three k, holders k)) S N C

@@ -1,62 +1,31 @@
 -- A node's words after a piece is taken out of it or put into it, and after another node's words are put behind its own.
 use mathlib.Core.Path.{_≡_, refl, sym, ap, _∙_}
 use mathlib.Core.List.{List, [], _∷_, _++_}
-use mathlib.Core.Logic.{_≢_, _⊎_, inl, inr}
-use Prim.Native.Nat.{ℕ, zero, suc, _+_, _-_, _*_, _^_, _≤_, _<_}
-use native.Mathlib.Nat.{add-assoc}
-use native.Mathlib.Decide.{decLt}
+use mathlib.Core.Logic.{_≢_}
+use Prim.Native.Nat.{ℕ, zero, suc, _+_, _-_, _^_, _≤_, _<_}
 use native.Mathlib.Omega.{arith}
 use borrow.Rule.Slice.PartMut.{putMid}
-use lib.ListN.{length, getD, set, take, drop, length-append, length-set}
-use lib.Seq.{sets, append-snoc, length-sets}
+use lib.ListN.{length, getD, set, length-append}
+use lib.Seq.{sets, append-snoc}
 use Rattle.lists.specs.Lists.{insertAt, removeAt}
 use Rattle.lists.proofs.Edits.{length-insertAt, length-removeAt}
 use Rattle.words.specs.Words.{run}
-use Rattle.pool.specs.Layout.{nodeWords, start, block, withBlock, slots, nodeBlock}
+use Rattle.pool.specs.Layout.{nodeWords, start, withBlock, slots, nodeBlock}
 use Rattle.pool.specs.Parts.{Inside, countAt, lengthAt}
-use Rattle.pool.proofs.Block.{length-block, block-other}
+use Rattle.pool.proofs.Block.{block-other}
 use Rattle.pool.proofs.Blocks.{length-slots}
-use Rattle.pool.proofs.Store.{run-block, sets-in, set-in, withBlock-same, block-in, block-put}
+use Rattle.pool.proofs.Store.{run-block, sets-in, set-in, withBlock-same, part, block-put}
 use Rattle.pool.proofs.Slots.{parts}
-use Rattle.pool.proofs.Node.{node-elem, node-kid}
 use Rattle.pool.proofs.Areas.{Area, elem-area, kid-area, length-parts, area-word, area-read, area-append, area-open, area-close}
 use Rattle.tree.specs.Node.{Node}
-use Rattle.repair.specs.Pieces.{Seated, Takes, TookOut, Puts, putIn, Joins, lengthOr, HasSlot}
-
--- the words that are lent for a node
-abbrev pub part : List ℕ → ℕ → List ℕ
-part w a = take (a + nodeWords - a) (drop a w)
+use Rattle.tree.proofs.Standing.{node-count, node-size, lent, lent-count, lent-length, lent-kid}
+use Rattle.repair.specs.Pieces.{Takes, TookOut, Puts, putIn, Joins, lengthOr, HasSlot}
 
 -- a node has the length that its words say
 pub some-node : (w : List ℕ) (k : ℕ) → k ≢ 0 → lengthAt w k ≡ lengthOr w k
 unfolding lengthOr
 some-node w zero n = absurd (n refl)
 some-node w (suc k) n = refl
-
-module _ {w : List ℕ} {k : ℕ} (s : Seated w k) (a : ℕ) (ea : a ≡ start k) where
-  abbrev es : List ℕ
-  es = s .node .elems
-
-  abbrev ks : List ℕ
-  ks = s .node .kids
-
-  part-is : part w a ≡ nodeBlock (s .node .size) es ks
-  part-is = block-in w a k ea ∙ s .node .stored .is
-
-  pub part-long : length (part w a) ≡ nodeWords
-  part-long = rw (block-in w a k ea) (length-block w k (s .node .stored .inside))
-
-  pub part-count : getD (part w a) 0 0 ≡ length es
-  unfolding nodeBlock
-  part-count = ap (λ (b : List ℕ). getD b 0 0) part-is
-
-  pub part-size : getD (part w a) 1 0 ≡ s .node .size
-  unfolding nodeBlock
-  part-size = ap (λ (b : List ℕ). getD b 1 0) part-is
-
-  -- the slots that are in use
-  long-elems : length (slots 31 es) ≡ 31
-  long-elems = length-slots 31 es (s .node .few-elems)
 
 -- ---- a piece taken out, and one put in
 
@@ -79,16 +48,16 @@ module _ {w : List ℕ} {k i j n : ℕ} (s : Takes w k i j n) (a : ℕ) (ea : a 
       let si : length (slots 31 is) ≡ 31 = length-slots 31 is (omega arith) in
       let E = elem-area (length (m .elems)) (m .size) (slots 32 (m .kids)) in
       let K = kid-area (length (m .elems)) (m .size) (slots 31 is) si in
-      let count = part-count (s .seated) a ea in
+      let count = lent-count m a ea in
       let one : b₁ ≡ parts (length (m .elems)) (m .size) (slots 31 is) (slots 32 (m .kids)) 0 =
-      p .1 ∙ rw (count, part-is (s .seated) a ea) (area-close E (m .elems) fe i (2 + length (m .elems)) (s .elem) refl) in
+      p .1 ∙ rw (count, lent m a ea) (area-close E (m .elems) fe i (2 + length (m .elems)) (s .elem) refl) in
       let two : b₂ ≡ parts (length (m .elems)) (m .size) (slots 31 is) (slots 32 js) 0 =
       q .1 ∙ rw (count, one) (area-close K (m .kids) (m .few-kids) j (33 + length (m .elems) + 1) (omega (arith, s .kid)) (omega arith)) in
       let less : length (m .elems) - 1 ≡ length is = omega arith in
       record {
-        elem = p .0 ∙ rw (part-is (s .seated) a ea) (area-word E (m .elems) fe i (omega (arith, s .elem)));
+        elem = p .0 ∙ rw (lent m a ea) (area-word E (m .elems) fe i (omega (arith, s .elem)));
         kid = q .0 ∙ rw one (area-word K (m .kids) (m .few-kids) j (omega (arith, s .kid)));
-        words = rw (count, part-size (s .seated) a ea, two, less)
+        words = rw (count, lent-length m a ea, two, less)
             (block-put w a k ea (parts (length is) (m .size - n) (slots 31 is) (slots 32 js) 0) (m .stored .inside)
             (length-parts (length is) (m .size - n) (slots 31 is) (slots 32 js) si (length-slots 32 js (omega arith))));
       }
@@ -110,13 +79,13 @@ module _ {w : List ℕ} {k i j n : ℕ} (s : Puts w k i j n) (a : ℕ) (ea : a �
       let si : length (slots 31 is) ≡ 31 = length-slots 31 is (omega (arith, s .room)) in
       let E = elem-area (length (m .elems)) (m .size) (slots 32 (m .kids)) in
       let K = kid-area (length (m .elems)) (m .size) (slots 31 is) si in
-      let count = part-count (s .seated) a ea in
+      let count = lent-count m a ea in
       let one : b₁ ≡ parts (length (m .elems)) (m .size) (slots 31 is) (slots 32 (m .kids)) 0 =
-      p ∙ rw (count, part-is (s .seated) a ea) (area-open E (m .elems) fe i (2 + length (m .elems)) x (s .elem) (omega (arith, s .room)) refl) in
+      p ∙ rw (count, lent m a ea) (area-open E (m .elems) fe i (2 + length (m .elems)) x (s .elem) (omega (arith, s .room)) refl) in
       let two : b₂ ≡ parts (length (m .elems)) (m .size) (slots 31 is) (slots 32 js) 0 =
       q ∙ rw (count, one) (area-open K (m .kids) (m .few-kids) j (33 + length (m .elems) + 1) y (omega (arith, s .kid)) (omega (arith, s .room))
       (omega arith)) in
-      rw (count, part-size (s .seated) a ea, two, ← li)
+      rw (count, lent-length m a ea, two, ← li)
       (block-put w a k ea (parts (length is) (m .size + n) (slots 31 is) (slots 32 js) 0) (m .stored .inside)
       (length-parts (length is) (m .size + n) (slots 31 is) (slots 32 js) si (length-slots 32 js (omega (arith, s .room)))))
 
@@ -126,7 +95,7 @@ module _ {w : List ℕ} {k j : ℕ} (s : HasSlot w k j) (a : ℕ) (ea : a ≡ st
   slot-is : y ≡ getD (s .seated .node .kids) j 0
   slot-is =
       let m = s .seated .node in
-      ey ∙ rw (part-is (s .seated) a ea) (node-kid (m .size) (m .elems) (m .kids) (m .few-elems) j (omega (arith, s .place, m .few-elems)))
+      ey ∙ lent-kid m a ea j (omega (arith, s .place, m .few-elems))
 
   pub below-none : y ≡ 0 → 0 ≡ lengthOr w (getD (s .seated .node .kids) j 0)
   unfolding lengthOr
@@ -139,14 +108,6 @@ module _ {w : List ℕ} {k j : ℕ} (s : HasSlot w k j) (a : ℕ) (ea : a ≡ st
   below-some n r e = e ∙ rw (← slot-is) (some-node w y n)
 
 -- ---- another node's words put behind a node's own
-
-pub node-count : {w : List ℕ} {k : ℕ} (m : Node w k) → countAt w k ≡ length (m .elems)
-unfolding nodeBlock
-node-count m = ap (λ (b : List ℕ). getD b 0 0) (m .stored .is)
-
-pub node-size : {w : List ℕ} {k : ℕ} (m : Node w k) → lengthAt w k ≡ m .size
-unfolding nodeBlock
-node-size m = ap (λ (b : List ℕ). getD b 1 0) (m .stored .is)
 
 -- what the code may count on; m and n are the counts, u and v the sizes
 pub record Bounds (w : List ℕ) (l r m n u v : ℕ) : Type 0 where
@@ -163,14 +124,6 @@ bounds s em en eu ev = record {
   few = rw (em, en, node-count (s .left .node), node-count (s .right .node)) (s .room);
   small = rw (eu, ev, node-size (s .left .node), node-size (s .right .node)) (s .small);
 }
-
--- one of the nodes lies before the other
-pub one-first : {w : List ℕ} {l r : ℕ} → Joins w l r → (start l + nodeWords ≤ start r) ⊎ (start r + nodeWords ≤ start l)
-one-first {l = l} {r} s =
-    let p = s .left .node .stored .inside .some in
-    let q = s .right .node .stored .inside .some in
-    let n = s .apart in
-    elim (decLt l r) [ yes g ↦ inl (omega arith) | no g ↦ inr (omega arith) ]
 
 module _ {w : List ℕ} {l r : ℕ} (s : Joins w l r) (a b : ℕ) (ea : a ≡ start l) (eb : b ≡ start r) where
   abbrev L : Node w l

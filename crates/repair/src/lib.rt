@@ -98,15 +98,6 @@ fn length_below(pool: &[u64], k: usize, j: usize) -> usize
 
 // ---- two neighbouring children
 
-// The id of child c of node id.
-pub fn child(pool: &[u64], id: usize, c: usize) -> usize
-    requires { ⌜ FillReady (now pool) id c ⌝ }
-    ensures { λ r. ⌜ ((s : FillReady (now (pool .entry)) id c) → r ≡ kid (s .height) (s .tree) c .id) ⌝ }
-{
-    let a = pool::start_of(id);
-    pool::kid(&pool[a..a + NODE_WORDS], c)
-}
-
 // Children c and c + 1 of node id and the separator between them become one child; the right node is freed.
 pub fn merge(pool: &mut [u64], id: usize, c: usize)
     requires { ⌜ PairReady Few (now pool) id c ⌝ }
@@ -114,7 +105,7 @@ pub fn merge(pool: &mut [u64], id: usize, c: usize)
         → Reshaped (now (pool .entry)) (now (pool .exit)) (suc (s .height)) (s .tree) (s .free)
         (merge (s .height) (s .tree) c) (kid (s .height) (s .tree) (c + 1) .id ∷ s .free)) ⌝ }
 {
-    let l = child(pool, id, c);
+    let l = tree::child(pool, id, c);
     let p = take_out(pool, id, c, c + 1, 0);
     append(pool, l, p.elem, p.kid);
     pool::give_node(pool, p.kid);
@@ -140,8 +131,8 @@ pub fn borrow_left(pool: &mut [u64], id: usize, c: usize)
         → Reshaped (now (pool .entry)) (now (pool .exit)) (suc (s .height)) (s .tree) (s .free)
         (borrowLeft (s .height) (s .tree) c) (s .free)) ⌝ }
 {
-    let l = child(pool, id, c);
-    let r = child(pool, id, c + 1);
+    let l = tree::child(pool, id, c);
+    let r = tree::child(pool, id, c + 1);
     let m = pool::count_at(pool, l);
     let from = End {
         node: l,
@@ -163,8 +154,8 @@ pub fn borrow_right(pool: &mut [u64], id: usize, c: usize)
         → Reshaped (now (pool .entry)) (now (pool .exit)) (suc (s .height)) (s .tree) (s .free)
         (borrowRight (s .height) (s .tree) c) (s .free)) ⌝ }
 {
-    let l = child(pool, id, c);
-    let r = child(pool, id, c + 1);
+    let l = tree::child(pool, id, c);
+    let r = tree::child(pool, id, c + 1);
     let m = pool::count_at(pool, l);
     let from = End {
         node: r,
@@ -186,7 +177,7 @@ pub fn is_thin(pool: &[u64], id: usize, c: usize) -> bool
     requires { ⌜ FillReady (now pool) id c ⌝ }
     ensures { λ r. ⌜ ((s : FillReady (now (pool .entry)) id c) → r ≡ isThin (s .height) (kid (s .height) (s .tree) c)) ⌝ }
 {
-    let k = child(pool, id, c);
+    let k = tree::child(pool, id, c);
     pool::count_at(pool, k) <= 15
 }
 

@@ -1,121 +1,116 @@
--- Edits of trees that stand in the pool: who owns a node, what an edit elsewhere leaves, a child and its parent.
-use mathlib.Core.Path.{_≡_, refl, sym, ap, subst₂}
-use mathlib.Core.List.{List, [], _∷_, _++_, map}
-use Prim.Native.Nat.{ℕ, zero, suc, _+_, _<_}
+-- Edits of trees that stand in the pool: what an edit elsewhere leaves, a node with new words or other children, and one edit after another.
+use mathlib.Core.Path.{_≡_, sym, _∙_}
+use mathlib.Core.List.{List, [], _∷_, _++_}
+use Prim.Native.Nat.{ℕ, zero, suc, _+_, _≤_, _<_}
 use native.Mathlib.Omega.{arith}
-use lib.ListN.{length, getD, take, drop}
+use lib.ListN.{length, getD, set, take, drop, length-map, List·getD-map}
 use lib.Seq.{set-split}
 use Rattle.lists.specs.Lists.{sum, count}
 use Rattle.lists.proofs.All.{All, nil, cons, all-append, all-take, all-drop, all-at, all-of}
-use Rattle.lists.proofs.Sums.{total, total-at}
-use Rattle.lists.proofs.Counts.{count-append}
-use Rattle.model.specs.Tree.{Tree, kid, none, size, ids, withKid}
-use Rattle.model.proofs.Nodes.{held, held-inner, held-id, held-kid, kid-size, Rearranged}
-use Rattle.pool.specs.Layout.{chainWord, nodeWords, withBlock, rootBlock}
-use Rattle.pool.specs.Parts.{Inside, Stored, At, KidsAt, ChainAt}
+use Rattle.lists.proofs.Sums.{total}
+use Rattle.lists.proofs.Counts.{count-append, count-self, one-same}
+use Rattle.model.specs.Tree.{Tree, Below, kid, none, size, ids}
+use Rattle.model.proofs.Nodes.{held, held-inner, held-id, kids-held, kid-size, Rearranged}
+use Rattle.pool.specs.Layout.{idOf, kidIds, rootBlock}
+use Rattle.pool.specs.Parts.{Stored, At, KidsAt, ChainAt}
 use Rattle.pool.specs.Chain.{Untouched}
-use Rattle.pool.proofs.Block.{head-word, stored-block}
-use Rattle.pool.proofs.Frame.{Apart, stored-frame, chain-frame, chain-inside, at-untouched, block-untouched, untouched-both}
+use Rattle.pool.proofs.Frame.{at-untouched, stored-untouched, chain-untouched, untouched-more, untouched-none, untouched-both}
+use Rattle.pool.proofs.Frame.{Wrote, stored-same}
 use Rattle.tree.specs.Node.{Node}
-use Rattle.tree.specs.Stands.{Owns, Reshaped}
+use Rattle.tree.specs.Stands.{Stands, Owns, Reshaped}
+use Rattle.tree.specs.Lookup.{Above, HasKid}
+use Rattle.tree.proofs.Standing.{nodeOf}
 
-module _ {A B : Type 0} (f : A → B) where
-  pub map-take : (n : ℕ) (xs : List A) → take n (map f xs) ≡ map f (take n xs)
-  map-take zero xs = refl
-  map-take (suc n) [] = refl
-  map-take (suc n) (x ∷ xs) = ap (λ (ys : List B). f x ∷ ys) (map-take n xs)
+-- ---- the children of a node, leaf or not
 
-  pub map-drop : (n : ℕ) (xs : List A) → drop n (map f xs) ≡ map f (drop n xs)
-  map-drop zero xs = refl
-  map-drop (suc n) [] = refl
-  map-drop (suc n) (x ∷ xs) = map-drop n xs
+abbrev pub KidAt : List ℕ → (h : ℕ) → Below h → Type 0
+KidAt w zero k = Unit {0}
+KidAt w (suc h) k = At w h k
 
--- ---- whose a node is
+pub each-kid : (w : List ℕ) (h : ℕ) {ks : List (Below h)} → KidsAt w h ks → All (KidAt w h) ks
+each-kid w zero {ks} K = go ks
+  where
+    go : (ks : List ⊥) → All (λ k. Unit {0}) ks
+    go [] = nil
+    go (k ∷ ks) = absurd k
+each-kid w (suc h) {ks} K = all-of (none h) ks K
 
--- the root's, that of a child before child c, of child c, or of one behind it
-pub kids-held : (h k : ℕ) (t : Tree (suc h)) (c : ℕ) → c < length (t .kids) → held (suc h) k t
-    ≡ count k (t .id ∷ []) + (total (held h k) (take c (t .kids)) + (held h k (kid h t c) + total (held h k) (drop (suc c) (t .kids))))
-kids-held h k t c l = omega (arith, held-inner h k t, total-at (held h k) (t .kids) c (none h) l)
+kids-at : (w : List ℕ) (h : ℕ) {ks : List (Below h)} → All (KidAt w h) ks → KidsAt w h ks
+kids-at w zero A = tt
+kids-at w (suc h) A = all-at (none h) A
 
-pub first-free : (k : ℕ) (f : List ℕ) → 0 < length f → count k f ≡ count k (getD f 0 0 ∷ []) + count k (drop 1 f)
-first-free k [] l = absurd (omega arith)
-first-free k (a ∷ f) l = count-append k (a ∷ []) f
-
-pub count-same : (k : ℕ) {a b : ℕ} → a ≡ b → count k (a ∷ []) ≡ count k (b ∷ [])
-count-same k e = ap (λ (j : ℕ). count k (j ∷ [])) e
-
-pub stored-same : {w : List ℕ} {k j : ℕ} {b c : List ℕ} → k ≡ j → b ≡ c → Stored w j b → Stored w k c
-stored-same {w} e d S = subst₂ (λ (i : ℕ) (ys : List ℕ). Stored w i ys) (sym e) d S
+-- a tree from its own words and its children
+pub tree-at : {w : List ℕ} {k : ℕ} {b : List ℕ} (h : ℕ) (t : Tree h) → t .id ≡ k → b ≡ rootBlock h t → Stored w k b
+    → All (KidAt w h) (t .kids) → At w h t
+tree-at {w} h t e d S K = record { here = stored-same e d S; each = kids-at w h K }
 
 -- ---- what an edit elsewhere leaves
 
 module _ {w w′ own : List ℕ} (U : Untouched w w′ own) where
-  pub stored-untouched : {k : ℕ} {ys : List ℕ} → count k own ≡ 0 → Stored w k ys → Stored w′ k ys
-  stored-untouched {k} z S = stored-frame w w′ (U .long) (U .others k (S .inside) z) S
-
   abbrev pub node-untouched : {k : ℕ} → count k own ≡ 0 → Node w k → Node w′ k
   node-untouched z m = record {
     size = m .size;
     elems = m .elems;
     kids = m .kids;
-    stored = stored-untouched z (m .stored);
+    stored = stored-untouched U z (m .stored);
     few-elems = m .few-elems;
     few-kids = m .few-kids;
   }
 
-  pub chain-untouched : {f : List ℕ} → Apart own f → getD w′ chainWord 0 ≡ getD w chainWord 0 → ChainAt w f → ChainAt w′ f
-  chain-untouched {f} a q C = chain-frame w w′ (U .long) f (λ k l. U .others k (chain-inside w f C k l) (a k l)) q C
-
-  pub untouched-more : {all : List ℕ} → ((k : ℕ) → count k all ≡ 0 → count k own ≡ 0) → Untouched w w′ all
-  untouched-more s = record { long = U .long; head = U .head; others = λ k I z. U .others k I (s k z) }
-
-  pub kids-untouched : (h : ℕ) (ks : List (Tree h)) → ((k : ℕ) → 0 < total (held h k) ks → count k own ≡ 0) → All (At w h) ks
-      → All (At w′ h) ks
+  trees-untouched : (h : ℕ) {ks : List (Tree h)} → ((k : ℕ) → 0 < total (held h k) ks → count k own ≡ 0) → All (At w h) ks → All (At w′ h) ks
   unfolding sum
-  kids-untouched h [] a ps = nil
-  kids-untouched h (t ∷ ts) a (cons p ps) =
-      cons (at-untouched U h t (λ k l. a k (omega arith)) p) (kids-untouched h ts (λ k l. a k (omega arith)) ps)
+  trees-untouched h a nil = nil
+  trees-untouched h a (cons {x = x} p ps) =
+      cons (at-untouched U h x (λ k l. a k (omega arith)) p) (trees-untouched h (λ k l. a k (omega arith)) ps)
 
-  -- a tree whose root has new words
-  pub below-untouched : (h : ℕ) (t : Tree h) → KidsAt w h (t .kids) → ((k : ℕ) → count k (t .id ∷ []) < held h k t → count k own ≡ 0)
-      → Stored w′ (t .id) (rootBlock h t) → At w′ h t
-  below-untouched zero t A a S = record { here = S; each = tt }
-  below-untouched (suc h) t A a S = record {
-    here = S;
-    each = all-at (none h) (kids-untouched h (t .kids) (λ k l. a k (omega (arith, held-inner h k t))) (all-of (none h) (t .kids) A));
-  }
+  -- the children of a tree of which at most the root was touched
+  pub kids-untouched : (h : ℕ) (t : Tree h) → ((k : ℕ) → count k (t .id ∷ []) < held h k t → count k own ≡ 0) → All (KidAt w h) (t .kids)
+      → All (KidAt w′ h) (t .kids)
+  kids-untouched zero t a K = each-kid w′ zero tt
+  kids-untouched (suc h) t a K = trees-untouched h (λ k l. a k (omega (arith, held-inner h k t))) K
 
--- ---- new words stored for one node
+  -- the children from c up to n gave way to others
+  pub kids-replaced : {h : ℕ} {t : Tree (suc h)} → At w (suc h) t → (c n : ℕ) (new : List (Tree h)) (s : Tree (suc h))
+      → s .kids ≡ take c (t .kids) ++ (new ++ drop n (t .kids))
+      → ((k : ℕ) → 0 < total (held h k) (take c (t .kids)) + total (held h k) (drop n (t .kids)) → count k own ≡ 0)
+      → Stored w′ (s .id) (rootBlock (suc h) s) → All (At w′ h) new → At w′ (suc h) s
+  kids-replaced {h} {t} A c n new s e apart S N =
+      let old : All (At w h) (t .kids) = each-kid w (suc h) (A .each) in
+      let front : All (At w′ h) (take c (t .kids)) = trees-untouched h (λ k l. apart k (omega arith)) (all-take c old) in
+      let back : All (At w′ h) (drop n (t .kids)) = trees-untouched h (λ k l. apart k (omega arith)) (all-drop n old) in
+      record { here = S; each = rw e (kids-at w′ (suc h) (all-append front (all-append N back))) }
 
-pub record Wrote (w w′ : List ℕ) (k : ℕ) (b : List ℕ) : Type 0 where
-  pub stored : Stored w′ k b
-  pub untouched : Untouched w w′ (k ∷ [])
-  pub chain : getD w′ chainWord 0 ≡ getD w chainWord 0
-
-pub wrote : {w w′ : List ℕ} {k : ℕ} {b : List ℕ} → w′ ≡ withBlock w k b → Inside w k → length b ≡ nodeWords → Wrote w w′ k b
-wrote {w} {k = k} {b} e I l =
-    rw e (record {
-      stored = stored-block w k b l I;
-      untouched = block-untouched w k b I l;
-      chain = head-word w k b chainWord (omega arith);
-    })
+-- new words for the root, with the same children
+pub root-replaced : {w w′ : List ℕ} (h : ℕ) (t : Tree h) (es : List ℕ) → At w h t → ((k : ℕ) → held h k t ≤ 1)
+    → Wrote w w′ (t .id) (rootBlock h (record { id = t .id; elems = es; kids = t .kids }))
+    → At w′ h (record { id = t .id; elems = es; kids = t .kids })
+root-replaced {w} {w′} h t es A once W = record {
+  here = W .stored;
+  each = kids-at w′ h (kids-untouched (W .untouched) h t (λ k l. omega (arith, once k)) (each-kid w h (A .each)));
+}
 
 -- ---- a tree and the free nodes beside it
 
--- new words for the root, with the same children
 pub root-reshaped : {w w′ : List ℕ} (h : ℕ) (t : Tree h) {f : List ℕ} (es : List ℕ) → Owns w h t f
     → Wrote w w′ (t .id) (rootBlock h (record { id = t .id; elems = es; kids = t .kids }))
     → Reshaped w w′ h t f (record { id = t .id; elems = es; kids = t .kids }) f
 root-reshaped h t {f} es O W = record {
-  at = below-untouched (W .untouched) h (record { id = t .id; elems = es; kids = t .kids }) (O .at .each)
-      (λ k l. omega (arith, O .once k, same h k t)) (W .stored);
+  at = root-replaced h t es (O .at) (λ k. omega (arith, O .once k)) W;
   chain = chain-untouched (W .untouched) (λ k l. omega (arith, O .once k, held-id h k t)) (W .chain) (O .chain);
   untouched = untouched-more (W .untouched) (λ k z. omega (arith, count-append k (ids h t) f, held-id h k t));
 }
-  where
-    same : (h k : ℕ) (t : Tree h) → held h k (record { id = t .id; elems = es; kids = t .kids }) ≡ held h k t
-    same zero k t = unfold ids in refl
-    same (suc h) k t = unfold ids in refl
+
+-- the children from c up to n gave way to others, and the free nodes to g
+pub kids-reshaped : {w w′ own : List ℕ} {h : ℕ} {t : Tree (suc h)} {f g : List ℕ} → Owns w (suc h) t f → Untouched w w′ own
+    → (c n : ℕ) (new : List (Tree h)) (s : Tree (suc h)) → s .kids ≡ take c (t .kids) ++ (new ++ drop n (t .kids))
+    → ((k : ℕ) → 0 < total (held h k) (take c (t .kids)) + total (held h k) (drop n (t .kids)) → count k own ≡ 0)
+    → ((k : ℕ) → held (suc h) k t + count k f ≡ 0 → count k own ≡ 0)
+    → Stored w′ (s .id) (rootBlock (suc h) s) → All (At w′ h) new → ChainAt w′ g → Reshaped w w′ (suc h) t f s g
+kids-reshaped {h = h} {t} {f} O U c n new s e apart inside S N C = record {
+  at = kids-replaced U (O .at) c n new s e apart S N;
+  chain = C;
+  untouched = untouched-more U (λ k z. inside k (omega (arith, count-append k (ids (suc h) t) f)));
+}
 
 module _ {w : List ℕ} {h : ℕ} {t : Tree (suc h)} {f : List ℕ} (O : Owns w (suc h) t f) (c : ℕ) (l : c < length (t .kids)) where
   pub owns-kid : Owns w h (kid h t c) f
@@ -123,33 +118,53 @@ module _ {w : List ℕ} {h : ℕ} {t : Tree (suc h)} {f : List ℕ} (O : Owns w 
     at = O .at .each c l;
     fit = O .fit .each c l .fit;
     chain = O .chain;
-    once = λ k. omega (arith, O .once k, held-kid h k t c l);
+    once = λ k. omega (arith, O .once k, kids-held h k t c l);
     small = omega (arith, O .small, kid-size h t c l);
   }
 
+  -- what an edit of child c may touch
+  abbrev own : List ℕ
+  own = ids h (kid h t c) ++ f
+
+  pub root-apart : (id : ℕ) → t .id ≡ id → count id own ≡ 0
+  root-apart id e =
+      omega (arith, O .once id, kids-held h id t c l, one-same id e, count-self id [], count-append id (ids h (kid h t c)) f)
+
   -- child c became k, and the root has new words
-  pub kid-reshaped : {w₁ w₂ : List ℕ} {k : Tree h} {g : List ℕ} → Reshaped w w₁ h (kid h t c) f k g
+  pub kid-reshaped : {w₁ w₂ : List ℕ} {k : Tree h} {g : List ℕ} (es : List ℕ) → Reshaped w w₁ h (kid h t c) f k g
       → ((j : ℕ) → held h j k + count j g ≡ held h j (kid h t c) + count j f)
-      → Wrote w₁ w₂ (t .id) (rootBlock (suc h) (withKid h t c k)) → Reshaped w w₂ (suc h) t f (withKid h t c k) g
-  kid-reshaped {w₁} {w₂} {k} {g} R same W =
-      let K : List (Tree h) = t .kids in
-      let A : All (At w h) K = all-of (none h) K (O .at .each) in
-      let own : List ℕ = (ids h (kid h t c) ++ f) ++ (t .id ∷ []) in
-      let U : Untouched w w₂ own = untouched-both (R .untouched) (W .untouched) in
-      let n : (j : ℕ) → count j own ≡ held h j (kid h t c) + count j f + count j (t .id ∷ []) =
-      (λ j. omega (arith, count-append j (ids h (kid h t c) ++ f) (t .id ∷ []), count-append j (ids h (kid h t c)) f)) in
-      let at : At w₂ h k = at-untouched (W .untouched) h k (λ j m. omega (arith, same j, kids-held h j t c l, O .once j)) (R .at) in
-      record {
-        at = record {
-          here = W .stored;
-          each = rw (set-split K c k l) (all-at (none h)
-              (all-append (kids-untouched U h (take c K) (λ j m. omega (arith, n j, kids-held h j t c l, O .once j)) (all-take c A))
-              (cons at
-              (kids-untouched U h (drop (suc c) K) (λ j m. omega (arith, n j, kids-held h j t c l, O .once j)) (all-drop (suc c) A)))));
-        };
-        chain = chain-untouched (W .untouched) (λ j m. omega (arith, same j, kids-held h j t c l, O .once j)) (W .chain) (R .chain);
-        untouched = untouched-more U (λ j z. omega (arith, n j, count-append j (ids (suc h) t) f, kids-held h j t c l));
-      }
+      → Wrote w₁ w₂ (t .id) (rootBlock (suc h) (record { id = t .id; elems = es; kids = set (t .kids) c k }))
+      → Reshaped w w₂ (suc h) t f (record { id = t .id; elems = es; kids = set (t .kids) c k }) g
+  kid-reshaped {k = k} {g} es R same W =
+      let n : (j : ℕ) → count j (own ++ (t .id ∷ [])) ≡ held h j (kid h t c) + count j f + count j (t .id ∷ []) =
+      (λ j. omega (arith, count-append j own (t .id ∷ []), count-append j (ids h (kid h t c)) f)) in
+      let at = at-untouched (W .untouched) h k (λ j m. omega (arith, same j, kids-held h j t c l, O .once j)) (R .at) in
+      kids-reshaped O (untouched-both (R .untouched) (W .untouched)) c (suc c) (k ∷ [])
+      (record { id = t .id; elems = es; kids = set (t .kids) c k }) (set-split (t .kids) c k l)
+      (λ j m. omega (arith, n j, kids-held h j t c l, O .once j)) (λ j z. omega (arith, n j, kids-held h j t c l)) (W .stored) (cons at nil)
+      (chain-untouched (W .untouched) (λ j m. omega (arith, same j, kids-held h j t c l, O .once j)) (W .chain) (R .chain))
+
+-- ---- a child, as the words of the node name it
+
+pub kid-count : (h : ℕ) (t : Tree (suc h)) → length (kidIds (suc h) t) ≡ length (t .kids)
+unfolding kidIds
+kid-count h t = length-map (t .kids) (idOf h)
+
+module _ {w : List ℕ} {h id c : ℕ} {t : Tree (suc h)} {f : List ℕ} (O : Owns w (suc h) t f) (e : t .id ≡ id) (l : c < length (t .kids)) where
+  abbrev pub has-kid : HasKid w id c
+  has-kid = record {
+    node = nodeOf (suc h) t e (O .at) (O .fit);
+    below = omega (arith, kid-count h t);
+  }
+
+  pub child-is : (k : ℕ) → ((q : HasKid w id c) → k ≡ getD (q .node .kids) c 0) → kid h t c .id ≡ k
+  unfolding kidIds
+  child-is k ek = sym (ek has-kid ∙ List·getD-map (idOf h) (t .kids) c (none h))
+
+-- ---- no edit, one edit after another, and what holds between them
+
+pub reshaped-none : {w : List ℕ} {h : ℕ} {t : Tree h} {f : List ℕ} → Owns w h t f → Reshaped w w h t f t f
+reshaped-none O = record { at = O .at; chain = O .chain; untouched = untouched-none }
 
 pub owns-after : {w w′ : List ℕ} {h : ℕ} {t s : Tree h} {f g : List ℕ} → Owns w h t f → Reshaped w w′ h t f s g → Rearranged h t f s g
     → Owns w′ h s g
@@ -168,4 +183,19 @@ reshaped-both {h = h} {t} {s} {f = f} {g} R n S = record {
   chain = S .chain;
   untouched = untouched-more (untouched-both (R .untouched) (S .untouched)) (λ k z.
       omega (arith, n k, count-append k (ids h t ++ f) (ids h s ++ g), count-append k (ids h t) f, count-append k (ids h s) g));
+}
+
+-- what a search in the tree asks
+abbrev pub owns-above : {w : List ℕ} {h id : ℕ} {t : Tree (suc h)} {f : List ℕ} → Owns w (suc h) t f → t .id ≡ id → (index : ℕ)
+    → index ≤ size (suc h) t → Above w id index
+owns-above {h = h} {t = t} O e index l = record { height = h; tree = t; here = e; at = O .at; fit = O .fit; upto = l }
+
+abbrev pub owns-stands : {w : List ℕ} {h id : ℕ} {t : Tree h} {f : List ℕ} → Owns w h t f → t .id ≡ id → 0 < length (t .elems) → Stands w h id
+owns-stands {t = t} O e l = record {
+  tree = t;
+  here = e;
+  at = O .at;
+  fit = record { some = l; fit = O .fit };
+  once = λ k. omega (arith, O .once k);
+  small = O .small;
 }

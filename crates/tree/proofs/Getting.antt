@@ -14,8 +14,25 @@ use Rattle.model.proofs.Find.{Step, step, separator}
 use Rattle.model.proofs.Get.{get-separator, get-inside, get-law}
 use Rattle.model.proofs.Bounds.{levels-few}
 use Rattle.tree.specs.declared.Turn.{Turn}
+use Rattle.tree.specs.Stands.{Stands}
 use Rattle.tree.specs.Lookup.{Above, Turns, Has, HasElement}
 use Rattle.tree.proofs.Standing.{nodeOf}
+
+-- ---- a tree that stands, and a child of it
+
+abbrev pub stands-above : {w : List ℕ} {h id : ℕ} (S : Stands w (suc h) id) (index : ℕ) → index ≤ size (suc h) (S .tree) → Above w id index
+stands-above {h = h} S index l = record { height = h; tree = S .tree; here = S .here; at = S .at; fit = S .fit .fit; upto = l }
+
+abbrev pub stands-kid : {w : List ℕ} {h id k : ℕ} (S : Stands w (suc h) id) (c : ℕ) → c < length (S .tree .kids) → kid h (S .tree) c .id ≡ k
+    → Stands w h k
+stands-kid {h = h} S c l e = record {
+  tree = kid h (S .tree) c;
+  here = e;
+  at = S .at .each c l;
+  fit = record { some = omega (arith, S .fit .fit .each c l .least); fit = S .fit .fit .each c l .fit };
+  once = λ k. omega (arith, S .once k, held-kid h k (S .tree) c l);
+  small = omega (arith, S .small, kid-size h (S .tree) c l);
+}
 
 -- ---- in a leaf
 
@@ -39,9 +56,9 @@ leaf-got (suc h) e s x E = absurd (omega arith)
 
 module _ {w : List ℕ} {id index l : ℕ} (s : Has w (suc l) id index) where
   abbrev pub above : Above w id index
-  above = record { height = l; stands = s .stands; upto = omega (arith, s .below) }
+  above = stands-above (s .stands) index (omega (arith, s .below))
 
-  abbrev pub t : Tree (suc l)
+  abbrev t : Tree (suc l)
   t = s .stands .tree
 
   pub F : Fit (suc l) t
@@ -50,7 +67,7 @@ module _ {w : List ℕ} {id index l : ℕ} (s : Has w (suc l) id index) where
   pub way : Step l t index
   way = step l t F index (omega (arith, s .below))
 
-  module _ (r : Turn) (T : (a : Above w id index) → Turns (a .height) (a .stands .tree) index r) where
+  module _ (r : Turn) (T : (a : Above w id index) → Turns (a .height) (a .tree) index r) where
     -- at a separator
     module _ (e : r .separator ≡ true) where
       pub at : atSeparator l t index ≡ true
@@ -77,14 +94,7 @@ module _ {w : List ℕ} {id index l : ℕ} (s : Has w (suc l) id index) where
 
       abbrev pub below-has : Has w l (r .id) (r .sub)
       below-has = record {
-        stands = record {
-          tree = kid l t (find l t index .child);
-          here = sym (T above .id);
-          at = s .stands .at .each (find l t index .child) (omega (arith, way .child, F .one-more));
-          fit = record { some = omega (arith, way .below .least); fit = way .below .fit };
-          once = λ k. omega (arith, s .stands .once k, held-kid l k t (find l t index .child) (omega (arith, way .child, F .one-more)));
-          small = omega (arith, s .stands .small, kid-size l t (find l t index .child) (omega (arith, way .child, F .one-more)));
-        };
+        stands = stands-kid (s .stands) (find l t index .child) (omega (arith, way .child, F .one-more)) (sym (T above .id));
         below =
             let n = eqb-false (find l t index .sub) (size l (kid l t (find l t index .child))) inside in
             rw (T above .sub) (omega (arith, way .sub));
@@ -108,7 +118,7 @@ module _ {w : List ℕ} {id index l : ℕ} (s : Has w (suc l) id index) where
 -- ---- the same for any levels that are not 0
 
 abbrev pub Turned : List ℕ → ℕ → ℕ → Turn → Type 0
-Turned w id index r = (a : Above w id index) → Turns (a .height) (a .stands .tree) index r
+Turned w id index r = (a : Above w id index) → Turns (a .height) (a .tree) index r
 
 module _ {w : List ℕ} {id index : ℕ} where
   pub has-above : (h : ℕ) → (h ≡ 0 → ⊥) → Has w h id index → Above w id index

@@ -3,6 +3,6 @@ pub mod Standing
 pub mod Way
 pub mod Getting
 pub mod Spanning
-pub mod Replacing
 pub mod Edits
-pub mod Lending
+pub mod Replacing
+pub mod Rooting

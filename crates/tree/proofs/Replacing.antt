@@ -2,28 +2,27 @@
 use mathlib.Core.Path.{_≡_, refl, sym, ap, subst, _∙_}
 use mathlib.Core.Bool.{true, false}
 use mathlib.Core.List.{List, [], _∷_, map}
-use mathlib.Core.Logic.{_≢_}
-use Prim.Native.Nat.{ℕ, zero, suc, _+_, _≤_, _<_}
-use native.Mathlib.Decide.{decLt, ℕ-discrete}
+use Prim.Native.Nat.{ℕ, zero, suc, _+_, _<_}
 use native.Mathlib.Omega.{arith}
 use lib.ListN.{length, getD, set, length-set}
-use lib.Seq.{getD-set-same, getD-set-other, map-set-same}
+use lib.Seq.{set-split, map-set-same}
 use Rattle.lists.specs.Lists.{count, sum}
 use Rattle.lists.proofs.Counts.{count-self}
+use Rattle.lists.proofs.All.{nil, cons}
 use Rattle.model.specs.declared.Found.{Found}
 use Rattle.model.specs.Tree.{Tree, none, kid, size, ids, flat, find, withKid, withElem, get, replace}
-use Rattle.model.proofs.Nodes.{same-id, held, held-id, held-kid, held-kids, flat-length}
+use Rattle.model.proofs.Nodes.{same-id, held-id, kids-held, flat-length}
 use Rattle.model.proofs.Get.{get-separator, get-inside, replace-separator, replace-inside, replace-law}
-use Rattle.pool.specs.Layout.{chainWord, nodeWords, withBlock, nodeBlock, idOf, kidIds, rootBlock}
-use Rattle.pool.specs.Parts.{At, KidsAt}
+use Rattle.pool.specs.Layout.{chainWord, withBlock, nodeBlock, idOf, kidIds, rootBlock}
+use Rattle.pool.specs.Parts.{At}
 use Rattle.pool.specs.Chain.{Untouched}
-use Rattle.pool.proofs.Block.{stored-block, head-word}
 use Rattle.pool.proofs.Blocks.{length-nodeBlock}
-use Rattle.pool.proofs.Frame.{stored-frame, Apart, at-untouched, block-untouched}
+use Rattle.pool.proofs.Frame.{stored-untouched, untouched-more, wrote, wrote-same}
 use Rattle.tree.specs.declared.Turn.{Turn}
 use Rattle.tree.specs.Stands.{Stands}
 use Rattle.tree.specs.Lookup.{Has, HasElement, Swapped, Replaced}
 use Rattle.tree.proofs.Standing.{nodeOf}
+use Rattle.tree.proofs.Edits.{kids-replaced, root-replaced}
 use Rattle.tree.proofs.Getting.{leafHas, Turned, above, F, way, sep-has, below-has}
 
 -- ---- one element of a tree's own node replaced
@@ -34,13 +33,7 @@ block-elem zero t c x = ap (λ (n : ℕ). nodeBlock n (set (t .elems) c x) []) (
 block-elem (suc h) t c x =
     ap (λ (n : ℕ). nodeBlock (n + sum (map (size h) (t .kids))) (set (t .elems) c x) (map (idOf h) (t .kids))) (length-set (t .elems) c x)
 
--- a node's children where only the node itself was touched
-kids-stand : {w w′ : List ℕ} (h : ℕ) (t : Tree h) → ((k : ℕ) → held h k t ≤ 1) → Untouched w w′ (t .id ∷ []) → At w h t
-    → KidsAt w′ h (t .kids)
-kids-stand zero t once U A = tt
-kids-stand (suc h) t once U A = λ c l. at-untouched U h (kid h t c) (λ k m. omega (arith, once k, held-kid h k t c l)) (A .each c l)
-
--- a pool with other words for a tree's own node: those of the same tree with element c replaced
+-- what stands then, and what was touched
 record Edited (w w′ : List ℕ) (h : ℕ) (t s : Tree h) : Type 0 where
   at : At w′ h s
   untouched : Untouched w w′ (ids h t)
@@ -51,16 +44,15 @@ elem-edited : {w : List ℕ} {h id : ℕ} (S : Stands w h id) (c x : ℕ) (w′ 
     → Edited w w′ h (S .tree) (withElem h (S .tree) c x)
 elem-edited {w} {h} {id} S c x w′ e =
     let t : Tree h = S .tree in
-    let b : List ℕ = nodeBlock (size h t) (set (t .elems) c x) (kidIds h t) in
-    let m = nodeOf h t refl (S .at) (S .fit .fit) in
-    let I = m .stored .inside in
-    let l : length b ≡ nodeWords = length-nodeBlock (size h t) (set (t .elems) c x) (kidIds h t) (rw length-set (m .few-elems)) (m .few-kids) in
-    let U : Untouched w (withBlock w (t .id) b) (t .id ∷ []) = block-untouched w (t .id) b I l in
-    rw (e, ← (S .here)) (record {
-      at = record { here = rw (block-elem h t c x) (stored-block w (t .id) b l I); each = kids-stand h t (S .once) U (S .at) };
-      untouched = record { long = U .long; head = U .head; others = λ k J z. U .others k J (omega (arith, held-id h k t)) };
-      chain = head-word w (t .id) b chainWord (omega arith);
-    })
+    let es : List ℕ = set (t .elems) c x in
+    let m = nodeOf h t (S .here) (S .at) (S .fit .fit) in
+    let W = wrote-same (S .here) (sym (block-elem h t c x))
+    (wrote e (m .stored .inside) (length-nodeBlock (size h t) es (kidIds h t) (rw length-set (m .few-elems)) (m .few-kids))) in
+    record {
+      at = root-replaced h t es (S .at) (S .once) W;
+      untouched = untouched-more (W .untouched) (λ k z. omega (arith, held-id h k t));
+      chain = W .chain;
+    }
 
 -- ---- in a leaf
 
@@ -94,31 +86,6 @@ separator-replaced {index = index} (suc l) n s r T e w′ x old E =
 
 -- ---- in a child
 
--- two children have no node in common
-pub apart-kids : (h : ℕ) (t : Tree (suc h)) (c d : ℕ) → c < length (t .kids) → d < length (t .kids) → d ≢ c →
-    ((k : ℕ) → held (suc h) k t ≤ 1)
-    → Apart (ids h (kid h t c)) (ids h (kid h t d))
-apart-kids h t c d l m n once k p =
-    elim (decLt c d) [
-      | yes q ↦ omega (arith, once k, held-kids h k t c d q m)
-      | no q ↦ omega (arith, once k, held-kids h k t d c (omega arith) l)
-    ]
-
--- child c gave way to s, and no other child was touched
-pub kids-with : {w w′ own : List ℕ} (h : ℕ) (t : Tree (suc h)) (c : ℕ) (s : Tree h) → Untouched w w′ own
-    → ((d : ℕ) → d < length (t .kids) → d ≢ c → Apart own (ids h (kid h t d))) → At w (suc h) t → At w′ h s
-    → KidsAt w′ (suc h) (set (t .kids) c s)
-kids-with {w′ = w′} h t c s U apart A S d l = go (ℕ-discrete d c)
-  where
-    m : d < length (t .kids)
-    m = rw length-set at l
-
-    go : Dec (d ≡ c) → At w′ h (getD (set (t .kids) c s) d (none h))
-    go (yes e) = subst (λ (u : Tree h). At w′ h u) (sym (ap (λ (n : ℕ). getD (set (t .kids) c s) n (none h)) e
-        ∙ getD-set-same (t .kids) c s (none h) (omega (arith, m)))) S
-    go (no n) = subst (λ (u : Tree h). At w′ h u) (sym (getD-set-other (t .kids) c d s (none h) n))
-        (at-untouched U h (kid h t d) (apart d m n) (A .each d m))
-
 -- a child of the same id and size leaves the node's own words
 block-kid : (h : ℕ) (t : Tree (suc h)) (c : ℕ) (s : Tree h) → s .id ≡ kid h t c .id → size h s ≡ size h (kid h t c)
     → rootBlock (suc h) (withKid h t c s) ≡ rootBlock (suc h) t
@@ -148,20 +115,15 @@ module _ {w : List ℕ} {id index l : ℕ} (s : Has w (suc l) id index) (r : Tur
         length-set (flat l k) (find l t index .sub) x,
       ) in
       let i : c < length (t .kids) = omega (arith, way s .child, F s .one-more) in
-      let o : count (t .id) (ids l k) ≡ 0 = omega (arith, s .stands .once (t .id), held-kid l (t .id) t c i, count-self (t .id) []) in
+      let o : count (t .id) (ids l k) ≡ 0 = omega (arith, s .stands .once (t .id), kids-held l (t .id) t c i, count-self (t .id) []) in
       let A : At w (suc l) t = s .stands .at in
       record {
         given = R .given ∙ sym (ap (λ (g : Found). g .element) (get-inside l t index a));
-        at = rw (replace-inside l t index x a) (record {
-          here = rw (block-kid l t c u (same-id l u k (M .nodes)) n)
-              (stored-frame w w′ (R .untouched .long) (R .untouched .others (t .id) (A .here .inside) o) (A .here));
-          each = kids-with l t c u (R .untouched) (λ d m z. apart-kids l t c d i m z (s .stands .once)) A (R .at);
-        });
-        untouched = record {
-          long = R .untouched .long;
-          head = R .untouched .head;
-          others = λ k J z. R .untouched .others k J (omega (arith, held-kid l k t c i));
-        };
+        at = rw (replace-inside l t index x a)
+            (kids-replaced (R .untouched) A c (suc c) (u ∷ []) (withKid l t c u) (set-split (t .kids) c u i)
+            (λ k m. omega (arith, s .stands .once k, kids-held l k t c i))
+            (rw (block-kid l t c u (same-id l u k (M .nodes)) n) (stored-untouched (R .untouched) o (A .here))) (cons (R .at) nil));
+        untouched = untouched-more (R .untouched) (λ k z. omega (arith, kids-held l k t c i));
         chain = R .chain;
       }
 

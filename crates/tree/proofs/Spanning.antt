@@ -2,31 +2,30 @@
 use mathlib.Core.Path.{_≡_, refl, sym, ap, ap₂, subst, _∙_}
 use mathlib.Core.Bool.{true, false}
 use mathlib.Core.List.{List}
-use Prim.Native.Nat.{ℕ, zero, suc, _-_, _≤_, _<_}
+use Prim.Native.Nat.{ℕ, zero, suc, _-_, _≤_}
 use native.Mathlib.Omega.{arith}
-use lib.ListN.{length}
 use Rattle.model.specs.declared.Stretch.{Stretch}
-use Rattle.model.specs.Tree.{Tree, kid, find, atSeparator}
+use Rattle.model.specs.Tree.{Tree, kid, find}
 use Rattle.model.specs.Calls.{stretch}
 use Rattle.model.proofs.Spans.{stretch-separator, stretch-inside}
+use Rattle.pool.specs.Parts.{countAt}
 use Rattle.tree.specs.declared.Turn.{Turn}
 use Rattle.tree.specs.Node.{Node}
-use Rattle.tree.specs.Lookup.{Above, Turns, Has}
-use Rattle.tree.proofs.Standing.{nodeOf}
+use Rattle.tree.specs.Lookup.{Has}
+use Rattle.tree.proofs.Standing.{nodeOf, node-count}
 use Rattle.tree.proofs.Getting.{Turned, above, leaf-below, below-has}
 
 abbrev pub ownNode : {w : List ℕ} {h id index : ℕ} → Has w h id index → Node w id
 ownNode {h = h} s = nodeOf h (s .stands .tree) (s .stands .here) (s .stands .at) (s .stands .fit .fit)
 
-pub leaf-within : {w : List ℕ} {id index : ℕ} (h : ℕ) → h ≡ 0 → (s : Has w h id index) (n : ℕ) → ((m : Node w id) → n ≡ length (m .elems))
-    → index ≤ n
-leaf-within h e s n E = omega (arith, leaf-below h e s, E (ownNode s))
+pub leaf-within : {w : List ℕ} {id index : ℕ} (h : ℕ) → h ≡ 0 → (s : Has w h id index) (n : ℕ) → n ≡ countAt w id → index ≤ n
+leaf-within h e s n E = omega (arith, leaf-below h e s, node-count (ownNode s))
 
-pub leaf-spans : {w : List ℕ} {id index : ℕ} (h : ℕ) → h ≡ 0 → (s : Has w h id index) (n : ℕ) → ((m : Node w id) → n ≡ length (m .elems))
+pub leaf-spans : {w : List ℕ} {id index : ℕ} (h : ℕ) → h ≡ 0 → (s : Has w h id index) (n : ℕ) → n ≡ countAt w id
     → _≡_ {A = Stretch} (record { node = id; slot = index; count = n - index }) (stretch h (s .stands .tree) index)
 unfolding stretch
 leaf-spans {index = index} zero e s n E =
-    ap₂ (λ (k m : ℕ). record { node = k; slot = index; count = m - index }) (sym (s .stands .here)) (E (ownNode s))
+    ap₂ (λ (k m : ℕ). record { node = k; slot = index; count = m - index }) (sym (s .stands .here)) (E ∙ node-count (ownNode s))
 leaf-spans (suc h) e s n E = absurd (omega arith)
 
 module _ {w : List ℕ} {id index : ℕ} where

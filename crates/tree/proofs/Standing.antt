@@ -1,20 +1,20 @@
 -- One node of a tree in the pool: its words from the tree, its elements read and replaced.
 use mathlib.Core.Path.{_≡_, sym, ap, ap₂, subst, _∙_}
 use mathlib.Core.List.{List, [], _∷_}
-use Prim.Native.Nat.{ℕ, _+_, _-_, _≤_, _<_}
+use Prim.Native.Nat.{ℕ, _+_, _≤_, _<_}
 use native.Mathlib.Nat.{add-assoc}
 use native.Mathlib.Omega.{arith}
-use lib.ListN.{length, getD, set, take, drop, length-set}
+use lib.ListN.{length, getD, set, length-set}
 use Rattle.model.specs.Tree.{Tree, size}
 use Rattle.model.specs.Fit.{Fit}
 use Rattle.model.proofs.Nodes.{most}
 use Rattle.pool.specs.Layout.{nodeWords, start, withBlock, slots, nodeBlock, kidIds, rootBlock}
-use Rattle.pool.specs.Parts.{Stored, At}
+use Rattle.pool.specs.Parts.{Stored, At, countAt, lengthAt}
 use Rattle.pool.proofs.Block.{block-word}
-use Rattle.pool.proofs.Store.{set-block, block-in}
-use Rattle.pool.proofs.Blocks.{length-slots, most-kids}
+use Rattle.pool.proofs.Store.{set-block, part, block-in}
+use Rattle.pool.proofs.Blocks.{length-slots, length-nodeBlock, most-kids}
 use Rattle.pool.proofs.Slots.{parts, parts-elems, slots-store}
-use Rattle.pool.proofs.Node.{node-elem}
+use Rattle.pool.proofs.Node.{node-elem, node-kid}
 use Rattle.tree.specs.Node.{Node}
 use Rattle.tree.specs.Lookup.{HasElement, Swapped}
 
@@ -33,10 +33,40 @@ nodeOf {w} h t e A F = record {
   few-kids = most-kids h t F;
 }
 
-pub counts : {w : List ℕ} {k : ℕ} (m : Node w k) (a n : ℕ) → a ≡ start k → n ≡ getD (take (a + nodeWords - a) (drop a w)) 0 0
-    → n ≡ length (m .elems)
+-- ---- what is read of it: in the pool, and in the words that are lent
+
+pub node-count : {w : List ℕ} {k : ℕ} (m : Node w k) → countAt w k ≡ length (m .elems)
 unfolding nodeBlock
-counts {w} {k} m a n ea e = e ∙ rw (block-in w a k ea, m .stored .is)
+node-count m = ap (λ (b : List ℕ). getD b 0 0) (m .stored .is)
+
+pub node-size : {w : List ℕ} {k : ℕ} (m : Node w k) → lengthAt w k ≡ m .size
+unfolding nodeBlock
+node-size m = ap (λ (b : List ℕ). getD b 1 0) (m .stored .is)
+
+module _ {w : List ℕ} {k : ℕ} (m : Node w k) (a : ℕ) (ea : a ≡ start k) where
+  pub lent : part w a ≡ nodeBlock (m .size) (m .elems) (m .kids)
+  lent = block-in w a k ea ∙ m .stored .is
+
+  pub lent-long : length (part w a) ≡ nodeWords
+  lent-long = rw lent (length-nodeBlock (m .size) (m .elems) (m .kids) (m .few-elems) (m .few-kids))
+
+  pub lent-count : getD (part w a) 0 0 ≡ length (m .elems)
+  unfolding nodeBlock
+  lent-count = rw lent
+
+  pub lent-length : getD (part w a) 1 0 ≡ m .size
+  unfolding nodeBlock
+  lent-length = rw lent
+
+  pub lent-elem : (i : ℕ) → i < 31 → getD (part w a) (2 + i) 0 ≡ getD (m .elems) i 0
+  lent-elem i l = rw lent (node-elem (m .size) (m .elems) (m .kids) i l)
+
+  pub lent-kid : (c : ℕ) → c < 32 → getD (part w a) (33 + c) 0 ≡ getD (m .kids) c 0
+  lent-kid c l = rw lent (node-kid (m .size) (m .elems) (m .kids) (m .few-elems) c l)
+
+  pub length-word : getD w (a + 1) 0 ≡ m .size
+  unfolding nodeBlock
+  length-word = rw (ea, ← (block-word w k 1 (omega arith)), m .stored .is)
 
 -- an element of a block replaced
 node-set : (n : ℕ) (es ks : List ℕ) (i x : ℕ) → length es ≤ 31 → i < length es → set (nodeBlock n es ks) (2 + i) x ≡ nodeBlock n (set es i x) ks
@@ -46,11 +76,6 @@ node-set n es ks i x m l =
     ∙ ap₂ (λ (c : ℕ) (ys : List ℕ). parts c n ys (slots 32 ks) 0) (sym (length-set es i x)) (slots-store 31 es i x l)
 
 module _ {w : List ℕ} {k i : ℕ} (s : HasElement w k i) (a : ℕ) (ea : a ≡ start k) where
-  pub reads : (x : ℕ) → x ≡ getD (take (a + nodeWords - a) (drop a w)) (2 + i) 0 → x ≡ getD (s .node .elems) i 0
-  reads x e =
-      let m = s .node in
-      e ∙ rw (block-in w a k ea, m .stored .is) (node-elem (m .size) (m .elems) (m .kids) i (omega (arith, m .few-elems, s .below)))
-
   pub swaps : (x old : ℕ) → old ≡ getD w (a + 2 + i) 0 → Swapped w (set w (a + 2 + i) x) k i x (s .node) old
   swaps x old e =
       let m = s .node in

@@ -1,43 +1,39 @@
 -- The way of an index from a node with children: what the code has read at each step of it.
 use mathlib.Core.Path.{_≡_, sym, ap, _∙_}
 use mathlib.Core.List.{List}
-use Prim.Native.Nat.{ℕ, suc, _+_, _-_, _<_}
+use Prim.Native.Nat.{ℕ, suc, _+_, _<_}
 use native.Mathlib.Omega.{arith}
 use lib.Dec.{eqb}
-use lib.ListN.{getD, take, drop}
+use lib.ListN.{getD}
 use Rattle.model.specs.declared.Place.{Place}
 use Rattle.model.specs.Tree.{Tree, kid, size, findIn, find}
 use Rattle.model.specs.Fit.{Fit}
 use Rattle.model.proofs.Find.{Step, step}
-use Rattle.pool.specs.Layout.{nodeWords, start, block}
-use Rattle.pool.specs.Parts.{Inside, At}
+use Rattle.pool.specs.Layout.{start, block}
+use Rattle.pool.specs.Parts.{Inside, At, lengthAt}
 use Rattle.pool.specs.Find.{kidLengths, Inner}
-use Rattle.pool.proofs.Store.{block-in}
+use Rattle.pool.proofs.Store.{part, block-in}
 use Rattle.pool.proofs.Node.{at-length, at-kid, kid-lengths, inner-at}
 use Rattle.tree.specs.Lookup.{Above, Turns}
-
--- node words lent from a on
-abbrev part : List ℕ → ℕ → List ℕ
-part w a = take (a + nodeWords - a) (drop a w)
 
 module _ {w : List ℕ} {id index : ℕ} (s : Above w id index) where
   abbrev h : ℕ
   h = s .height
 
   abbrev t : Tree (suc h)
-  t = s .stands .tree
+  t = s .tree
 
   F : Fit (suc h) t
-  F = s .stands .fit .fit
+  F = s .fit
 
   A : At w (suc h) t
-  A = s .stands .at
+  A = s .at
 
   way : Step h t index
   way = step h t F index (s .upto)
 
   lent : (a : ℕ) → a ≡ start id → part w a ≡ block w (t .id)
-  lent a e = block-in w a (t .id) (e ∙ ap start (sym (s .stands .here)))
+  lent a e = block-in w a (t .id) (e ∙ ap start (sym (s .here)))
 
   pub way-inner : (a : ℕ) → a ≡ start id → Inner w (part w a) index
   way-inner a e = rw (lent a e) (inner-at w h t F A index (s .upto))
@@ -59,11 +55,11 @@ module _ {w : List ℕ} {id index : ℕ} (s : Above w id index) where
       pub way-inside : Inside w k
       way-inside = rw way-id (below .here .inside)
 
-      pub way-turns : (b n : ℕ) → b ≡ start k → n ≡ getD (part w b) 1 0
+      pub way-turns : (n : ℕ) → n ≡ lengthAt w k
           → Turns h t index (record { child = p .child; sub = p .sub; compared = p .compared; id = k; separator = eqb (p .sub) n })
-      way-turns b n eb en =
+      way-turns n en =
           let e : n ≡ size h (kid h t (find h t index .child)) =
-          en ∙ rw (block-in w b k eb, way-id) (at-length w h (kid h t (find h t index .child)) (below .here)) in
+          en ∙ rw way-id (at-length w h (kid h t (find h t index .child)) (below .here)) in
           record {
             child = ap (λ (q : Place). q .child) way-place;
             sub = ap (λ (q : Place). q .sub) way-place;

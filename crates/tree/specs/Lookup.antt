@@ -7,6 +7,7 @@ use Rattle.model.specs.declared.Found.{Found}
 use Rattle.model.specs.declared.Stretch.{Stretch}
 use Rattle.model.specs.Calls.{stretch}
 use Rattle.model.specs.Tree.{Tree, kid, size, ids, find, atSeparator, get, replace}
+use Rattle.model.specs.Fit.{Fit}
 use Rattle.pool.specs.Layout.{chainWord, nodeBlock, withBlock}
 use Rattle.pool.specs.Parts.{At}
 use Rattle.pool.specs.Chain.{Untouched}
@@ -14,11 +15,14 @@ use Rattle.tree.specs.declared.Turn.{Turn}
 use Rattle.tree.specs.Node.{Node}
 use Rattle.tree.specs.Stands.{Stands}
 
--- node id has children, and the index is in one of them or at the end of one
+-- node id has children, and the index is in one of them or at the end of one; it may have lost its last element
 pub record Above (w : List ℕ) (id index : ℕ) : Type 0 where
   pub height : ℕ
-  pub stands : Stands w (suc height) id
-  pub upto : index ≤ size (suc height) (stands .tree)
+  pub tree : Tree (suc height)
+  pub here : tree .id ≡ id
+  pub at : At w (suc height) tree
+  pub fit : Fit (suc height) tree
+  pub upto : index ≤ size (suc height) tree
 
 -- where the index goes from there
 pub record Turns (h : ℕ) (t : Tree (suc h)) (index : ℕ) (r : Turn) : Type 0 where
@@ -44,6 +48,11 @@ Spans w h id index r = (s : Has w h id index) → r ≡ stretch h (s .stands .tr
 pub record HasElement (w : List ℕ) (k i : ℕ) : Type 0 where
   pub node : Node w k
   pub below : i < length (node .elems)
+
+-- node k has child c
+pub record HasKid (w : List ℕ) (k c : ℕ) : Type 0 where
+  pub node : Node w k
+  pub below : c < length (node .kids)
 
 -- x stands in the place of the old one
 pub record Swapped (w w′ : List ℕ) (k i x : ℕ) (m : Node w k) (old : ℕ) : Type 0 where

@@ -4,7 +4,7 @@ use mathlib.Core.List.{List, _++_}
 use Prim.Native.Nat.{ℕ, _+_, _^_, _≤_, _<_}
 use lib.ListN.{length}
 use Rattle.lists.specs.Lists.{count}
-use Rattle.model.specs.Tree.{Tree, size, ids, Root, bare, rooted, Bag, listOf, rootIds, levelsOf, met}
+use Rattle.model.specs.Tree.{Tree, size, ids, Bag, listOf, rootIds, levelsOf, met}
 use Rattle.model.specs.Fit.{Fit, FitTree, FitRoot}
 use Rattle.pool.specs.Layout.{rootId}
 use Rattle.pool.specs.Parts.{At, RootAt, ChainAt}

@@ -1,8 +1,7 @@
 // Lookup and replacement in a tree that is known to stand in the pool.
 ghost use mathlib.Core.Path.{_≡_};
-ghost use lib.ListN.{length, getD};
-ghost use Rattle.tree.specs.Node.{Node};
-ghost use Rattle.tree.specs.Lookup.{Above, Turns, Has, Got, Spans, HasElement, Swapped, Replaced};
+ghost use lib.ListN.{getD};
+ghost use Rattle.tree.specs.Lookup.{Above, Turns, Has, Got, Spans, HasElement, HasKid, Swapped, Replaced};
 use model::Found;
 use model::Stretch;
 use pool::ELEMS;
@@ -24,15 +23,6 @@ pub struct Turn {
     pub separator: bool,
 }
 
-// How many elements node k has.
-pub fn elements(pool: &[u64], k: usize) -> usize
-    requires { ⌜ Node (now pool) k ⌝ }
-    ensures { λ r. ⌜ ((m : Node (now (pool .entry)) k) → r ≡ length (m .elems)) ⌝ }
-{
-    let a = pool::start_of(k);
-    pool::count_of(&pool[a..a + NODE_WORDS])
-}
-
 // Element i of node k.
 pub fn element(pool: &[u64], k: usize, i: usize) -> u64
     requires { ⌜ HasElement (now pool) k i ⌝ }
@@ -40,6 +30,15 @@ pub fn element(pool: &[u64], k: usize, i: usize) -> u64
 {
     let a = pool::start_of(k);
     pool::elem(&pool[a..a + NODE_WORDS], i)
+}
+
+// The id of child c of node k.
+pub fn child(pool: &[u64], k: usize, c: usize) -> usize
+    requires { ⌜ HasKid (now pool) k c ⌝ }
+    ensures { λ r. ⌜ ((s : HasKid (now (pool .entry)) k c) → r ≡ getD (s .node .kids) c 0) ⌝ }
+{
+    let a = pool::start_of(k);
+    pool::kid(&pool[a..a + NODE_WORDS], c)
 }
 
 // Puts x in the place of element i of node k, and gives the old one.
@@ -56,7 +55,7 @@ pub fn swap_element(pool: &mut [u64], k: usize, i: usize, x: u64) -> u64
 // The way that an index goes from node id.
 pub fn way_to(pool: &[u64], id: usize, index: usize) -> Turn
     requires { ⌜ Above (now pool) id index ⌝ }
-    ensures { λ r. ⌜ ((s : Above (now (pool .entry)) id index) → Turns (s .height) (s .stands .tree) index r) ⌝ }
+    ensures { λ r. ⌜ ((s : Above (now (pool .entry)) id index) → Turns (s .height) (s .tree) index r) ⌝ }
 {
     let a = pool::start_of(id);
     let node = &pool[a..a + NODE_WORDS];
@@ -65,8 +64,7 @@ pub fn way_to(pool: &[u64], id: usize, index: usize) -> Turn
     let sub = p.sub;
     let compared = p.compared;
     let k = pool::kid(node, child);
-    let b = pool::start_of(k);
-    let n = pool::len(&pool[b..b + NODE_WORDS]);
+    let n = pool::length_at(pool, k);
     Turn {
         child,
         sub,
@@ -109,7 +107,7 @@ pub fn stretch(pool: &[u64], id: usize, levels: usize, index: usize) -> Stretch
     ensures { λ r. ⌜ Spans (now (pool .entry)) levels id index r ⌝ }
 {
     if levels == 0 {
-        let n = elements(pool, id);
+        let n = pool::count_at(pool, id);
         return Stretch {
             node: id,
             slot: index,

@@ -1,7 +1,7 @@
 -- `insert` meets its contract: each answer hands what the calls ensured to a law of `Whole`.
 use native.Mathlib.Omega.{arith}
 use borrow.Author.Needs.{needs}
-use Rattle.insertion.proofs.Rooting.{is-rooted, root-node}
+use Rattle.insertion.proofs.Rooting.{root-node}
 use Rattle.insertion.proofs.Whole.{refuses, bare-free, blank-takes, bare-inserted, room-ready, room-inserted}
 use Rattle.insertion.proofs.Whole.{levels-fit, raise-ready, full-ready, full-inserted}
 use Rattle.insertion.proofs.insert.Statement.{statement}
@@ -35,7 +35,7 @@ is-full-requires : tie.Need-is-full-requires
 is-full-requires c κs =
     let c₁ = c .before in
     let c₂ = c₁ .before .before .before .before .before .before .before .before in
-    root-node (is-rooted (c₂ .pre) (c₁ .if2 .left))
+    root-node (c₂ .pre) (c₁ .if2 .left)
 
 raise-root-requires : tie.Need-raise-root-requires
 raise-root-requires c κs =

@@ -1,7 +1,8 @@
 -- `lengthen` meets its contract: one word is stored, the node's second.
 use native.Mathlib.Omega.{arith}
 use borrow.Author.Needs.{needs}
-use Rattle.insertion.proofs.Nodes.{length-word, lengthened}
+use Rattle.tree.proofs.Standing.{length-word}
+use Rattle.insertion.proofs.Nodes.{lengthened}
 use Rattle.insertion.proofs.lengthen.Statement.{statement}
 use Rattle.insertion.proofs.lengthen.Tie as tie
 

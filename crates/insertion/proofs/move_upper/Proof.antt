@@ -2,7 +2,7 @@
 use native.Mathlib.Omega.{arith}
 use borrow.Author.Needs.{needs}
 use lib.ListN.{length-set}
-use Rattle.insertion.proofs.Nodes.{runs-apart, upper-moved}
+use Rattle.insertion.proofs.Nodes.{halves-apart, upper-moved}
 use Rattle.insertion.proofs.move_upper.Statement.{statement}
 use Rattle.insertion.proofs.move_upper.Tie as tie
 
@@ -14,7 +14,7 @@ copy-run-requires c κs =
       omega arith,
       (
         omega arith,
-        runs-apart (c₃ .pre) _ _ (c₂ .start-of .ensures) (c₁ .start-of2 .ensures) 18 2 15 (omega arith)
+        halves-apart (c₃ .pre) _ _ (c₂ .start-of .ensures) (c₁ .start-of2 .ensures) 18 2 15 (omega arith)
             (omega arith),
       ),
     )
@@ -27,7 +27,7 @@ copy-run-requires-2 c κs =
       omega arith,
       (
         omega arith,
-        runs-apart (c₃ .pre) _ _ (c₂ .start-of .ensures) (c₁ .start-of2 .ensures) 49 33 16 (omega arith)
+        halves-apart (c₃ .pre) _ _ (c₂ .start-of .ensures) (c₁ .start-of2 .ensures) 49 33 16 (omega arith)
             (omega arith),
       ),
     )

@@ -4,7 +4,9 @@ use native.Mathlib.Omega.{arith}
 use borrow.Author.Needs.{needs}
 use denote.Ref.{now}
 use lib.ListN.{length, getD, length-set}
-use Rattle.insertion.proofs.Nodes.{part, lent-count, lent-length, element-put}
+use Rattle.pool.proofs.Store.{part}
+use Rattle.tree.proofs.Standing.{lent-count, lent-length}
+use Rattle.insertion.proofs.Nodes.{element-put}
 use Rattle.insertion.proofs.put_element.Statement.{statement}
 use Rattle.insertion.proofs.put_element.Tie as tie
 

@@ -4,7 +4,9 @@ use native.Mathlib.Omega.{arith}
 use borrow.Author.Needs.{needs}
 use denote.Ref.{now}
 use lib.ListN.{length, getD}
-use Rattle.insertion.proofs.Nodes.{part, lent-count, separator-put}
+use Rattle.pool.proofs.Store.{part}
+use Rattle.tree.proofs.Standing.{lent-count}
+use Rattle.insertion.proofs.Nodes.{separator-put}
 use Rattle.insertion.proofs.put_separator.Statement.{statement}
 use Rattle.insertion.proofs.put_separator.Tie as tie
 

@@ -9,8 +9,8 @@ use lib.ListN.{getD, take, drop}
 use Rattle.lists.specs.Lists.{sum as sumOf}
 use Rattle.lists.proofs.Sums.{total}
 use Rattle.pool.specs.Parts.{lengthAt}
+use Rattle.tree.proofs.Standing.{lent-long, lent-kid}
 use Rattle.insertion.specs.Nodes.{Summed}
-use Rattle.insertion.proofs.Nodes.{lent-long, lent-kid}
 use Rattle.insertion.proofs.Halves.{summed-less, summed-inside, summed-one, summed-none}
 use Rattle.insertion.proofs.sum_lengths.Statement.{statement}
 use Rattle.insertion.proofs.sum_lengths.Tie as tie
@@ -27,7 +27,7 @@ read : (c : tie.After-kid Inv-loop μ-loop)
     → (let p = c .before .before .before .before .before .before in
     (s : Summed (now (p .args .pool)) (p .args .k) (p .args .from))
     → c .kid .result ≡ getD (s .node .kids) (p .args .from + c .before .before .loop .i) 0)
-read c s = lent-kid (s .node) _ (c .before .before .before .before .start-of .ensures) _ _ (omega (arith, s .start)) (c .kid .ensures)
+read c s = c .kid .ensures ∙ lent-kid (s .node) _ (c .before .before .before .before .start-of .ensures) _ (omega (arith, s .start))
 
 loop-holds : tie.Need-loop-holds Inv-loop μ-loop
 unfolding sumOf

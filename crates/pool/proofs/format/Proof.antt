@@ -40,7 +40,8 @@ none w e = record {
   });
 }
 
-turn : (w w′ : List ℕ) (p k : ℕ) → 0 < k → Freed w p k → ((f : List ℕ) → ChainAt w f → count k f ≡ 0 → Gave w f k w′) → Freed w′ p (k - 1)
+turn : (w w′ : List ℕ) (p k : ℕ) → 0 < k → Freed w p k → ((f : List ℕ) → ChainAt w f → count k f ≡ 0 → Gave w f k w′)
+    → Freed w′ p (k - 1)
 unfolding from
 turn w w′ p k l F g =
     let G = g (from (suc k) (p - k)) (F .chain) (count-out k (suc k) (p - k) (inl (omega arith))) in

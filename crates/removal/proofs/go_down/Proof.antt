@@ -1,5 +1,5 @@
 -- `go_down` meets its contract: each return is a row of the table `chooseWay`.
-use mathlib.Core.Path.{_≡_, sym, _∙_}
+use mathlib.Core.Path.{sym, _∙_}
 use mathlib.Core.Bool.{true}
 use Prim.Native.Nat.{_+_}
 use native.Mathlib.Omega.{arith}
@@ -7,8 +7,8 @@ use borrow.Author.Needs.{needs}
 use borrow.Author.Tests.{not-true, not-false}
 use denote.Ref.{now}
 use Rattle.repair.proofs.Choice.{ThinIs}
-use Rattle.removal.proofs.Going.{above, turn-kid, enter-ready, went-inside, few-kids}
-use Rattle.removal.proofs.Going.{next-kid, last-some, went-last, went-first, merge-ready, went-merged}
+use Rattle.removal.proofs.Going.{above, turn-kid, again, went-inside, few-kids}
+use Rattle.removal.proofs.Going.{next-kid, next-has, last-some, went-last, went-first, merge-ready, went-merged}
 use Rattle.removal.proofs.go_down.Statement.{statement}
 use Rattle.removal.proofs.go_down.Tie as tie
 
@@ -27,7 +27,7 @@ returns : tie.Need-returns
 returns c s =
     let f = c .before .before .before .before in
     went-inside s _ (f .before .before .before .before .way-to .ensures) (not-true _ (f .before .before .if1 .taken)) _ _ (f .fill .ensures) _
-    (c .enter .ensures)
+    (c .way-to2 .ensures)
 
 returns-3 : tie.Need-returns-3
 returns-3 c s =
@@ -48,7 +48,7 @@ go-down-spec =
     (tie.spec (λ c κs. above (c .before .before .pre))
     (λ c κs. turn-kid (c .before .before .before .before .before .before .pre) _ (c .before .before .before .way-to .ensures))
     (λ c κs.
-    enter-ready (c .before .before .before .before .before .before .before .before .before .before .pre) _
+    again (c .before .before .before .before .before .before .before .before .before .before .pre) _
     (c .before .before .before .before .before .before .before .way-to .ensures)
     (not-true _ (c .before .before .before .before .before .if1 .taken)) _ _ (c .before .before .before .fill .ensures))
     (λ c. search needs) returns
@@ -74,7 +74,7 @@ go-down-spec =
           (c .before .before .before .before .before .before .before .before .before .way-to .ensures),
     ))
     (λ c κs.
-    next-kid (c .before .before .before .before .before .before .before .before .before .before .before .before .pre) _
+    next-has (c .before .before .before .before .before .before .before .before .before .before .before .before .pre) _
     (c .before .before .before .before .before .before .before .before .before .way-to .ensures)
     (not-false _ (c .before .before .before .before .before .before .before .if1 .left)))
     (λ c. search needs) returns-3

@@ -1,11 +1,16 @@
 -- `append` meets its contract: the separator, the right node's elements and its children stand behind the left node's own.
-use mathlib.Core.Path.{_≡_, _∙_}
-use mathlib.Core.Logic.{inl, inr, ⊎-elim}
+use mathlib.Core.Path.{_≡_, sym, _∙_}
+use mathlib.Core.List.{List}
+use mathlib.Core.Logic.{_⊎_}
+use Prim.Native.Nat.{ℕ, _+_, _≤_}
 use native.Mathlib.Omega.{arith}
 use borrow.Author.Needs.{needs}
 use denote.Ref.{now}
 use lib.ListN.{length, length-set}
-use Rattle.repair.proofs.Pieces.{Bounds, bounds, one-first, appended}
+use Rattle.pool.specs.Layout.{nodeWords, start}
+use Rattle.pool.proofs.Block.{runs-apart}
+use Rattle.repair.specs.Pieces.{Joins}
+use Rattle.repair.proofs.Pieces.{Bounds, bounds, appended}
 use Rattle.repair.proofs.append.Statement.{statement}
 use Rattle.repair.proofs.append.Tie as tie
 
@@ -18,6 +23,11 @@ known c =
     let d = c .before .before .before .before in
     bounds (d .before .before .before .before .before .pre) (d .before .before .count-at .ensures) (d .count-at2 .ensures)
     (c .before .before .length-at .ensures) (c .length-at2 .ensures)
+
+-- a run in the right node lies before or behind one in the left
+apart : {w : List ℕ} {l r : ℕ} → Joins w l r → (from to n : ℕ) → start r ≤ from → from + n ≤ start r + nodeWords
+    → start l ≤ to → to + n ≤ start l + nodeWords → (to ≤ from) ⊎ (from + n ≤ to)
+apart s = runs-apart (s .right .node .stored .inside) (s .left .node .stored .inside) (λ q. s .apart (sym q))
 
 -- at the end
 long : (c : tie.After-slice-known3) → length (c .before .before .copy-run2 .last .0) ≡ length
@@ -47,8 +57,8 @@ append-spec =
       omega (arith, known (c .before .before .before)),
       (
         omega (arith, known (c .before .before .before)),
-        ⊎-elim (λ g. inl (omega (arith, known (c .before .before .before)))) (λ g. inr (omega (arith, known (c .before .before .before))))
-            (one-first (c .before .before .before .before .before .before .before .before .before .before .before .before .pre)),
+        apart (c .before .before .before .before .before .before .before .before .before .before .before .before .pre) _ _ _ (omega arith)
+            (omega (arith, known (c .before .before .before))) (omega arith) (omega (arith, known (c .before .before .before))),
       ),
     ))
     (λ c. search needs) (λ c. search needs) (λ c. omega (arith, known (c .before .before .before .before .before .before .before)))
@@ -59,10 +69,9 @@ append-spec =
       omega (arith, known (c .before .before .before .before .before .before .before)),
       (
         omega (arith, known (c .before .before .before .before .before .before .before)),
-        ⊎-elim (λ g. inl (omega (arith, known (c .before .before .before .before .before .before .before))))
-            (λ g. inr (omega (arith, known (c .before .before .before .before .before .before .before))))
-            (one-first (c .before .before .before .before .before .before .before .before .before
-            .before .before .before .before .before .before .before .pre)),
+        apart (c .before .before .before .before .before .before .before .before .before .before .before .before .before .before .before .before .pre)
+            _ _ _ (omega arith) (omega (arith, known (c .before .before .before .before .before .before .before))) (omega arith)
+            (omega (arith, known (c .before .before .before .before .before .before .before))),
       ),
     ))
     (λ c. omega (arith, known (c .before .before .before .before .before .before .before .before .before .before)))

@@ -1,7 +1,7 @@
 -- `borrow_left` meets its contract: the left child has a piece to lend, and the other has room for it.
 use native.Mathlib.Omega.{arith}
 use borrow.Author.Needs.{needs}
-use Rattle.repair.proofs.Pairing.{left-kid, right-kid}
+use Rattle.repair.proofs.Pairing.{pair-kid}
 use Rattle.repair.proofs.Moves.{pair-inside, pair-count, left-lends, left-lent}
 use Rattle.repair.proofs.borrow_left.Statement.{statement}
 use Rattle.repair.proofs.borrow_left.Tie as tie
@@ -9,12 +9,18 @@ use Rattle.repair.proofs.borrow_left.Tie as tie
 pub borrow-left-spec : {M : Type 1} → statement M
 borrow-left-spec =
     tie.close
-    (tie.spec (λ c κs. left-kid (c .before .before .pre)) (λ c. search needs) (λ c κs. right-kid (c .before .before .before .before .pre))
+    (tie.spec (λ c κs. pair-kid (c .before .before .pre) _ (omega arith)) (λ c. search needs)
+    (λ c κs. pair-kid (c .before .before .before .before .pre) _ (omega arith))
     (λ c κs. pair-inside (c .before .before .before .before .before .before .pre) _ _ (c .before .before .before .child .ensures)
     (c .before .child2 .ensures))
     (λ c.
     let s = c .before .before .before .before .before .before .before .pre in
-    omega (arith, s .counts, pair-count s _ _ (c .before .before .before .before .child .ensures) (c .before .before .child2 .ensures) _ (c .count-at .ensures)))
+    omega (
+      arith,
+      s .counts,
+      pair-count s _ _ (c .before .before .before .before .child .ensures) (c .before .before .child2 .ensures) _
+          (c .count-at .ensures),
+    ))
     (λ c κs. left-lends _ _ _ (c .before .before .before .before .before .child .ensures) (c .before .before .before .child2 .ensures)
     (c .before .count-at .ensures) (c .before .before .before .before .before .before .before .before .pre))
     (λ c. search needs)

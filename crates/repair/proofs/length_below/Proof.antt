@@ -1,5 +1,4 @@
 -- `length_below` meets its contract: the slot holds 0, or a node whose length is read.
-use mathlib.Core.Path.{_≡_}
 use borrow.Author.Needs.{needs}
 use Rattle.repair.proofs.Pieces.{below-none, below-inside, below-some}
 use Rattle.repair.proofs.length_below.Statement.{statement}

@@ -1,7 +1,7 @@
 -- `merge` meets its contract: the piece taken out of the node goes with the right node's words behind the left one's.
 use native.Mathlib.Omega.{arith}
 use borrow.Author.Needs.{needs}
-use Rattle.repair.proofs.Pairing.{left-kid}
+use Rattle.repair.proofs.Pairing.{pair-kid}
 use Rattle.repair.proofs.Moves.{merge-take, merge-append, merge-give, merged}
 use Rattle.repair.proofs.merge.Statement.{statement}
 use Rattle.repair.proofs.merge.Tie as tie
@@ -15,7 +15,7 @@ returns c s =
 pub merge-spec : {M : Type 1} → statement M
 merge-spec =
     tie.close
-    (tie.spec (λ c κs. left-kid (c .before .before .pre)) (λ c. search needs)
+    (tie.spec (λ c κs. pair-kid (c .before .before .pre) _ (omega arith)) (λ c. search needs)
     (λ c κs. merge-take (c .before .before .before .before .pre) _ (c .before .child .ensures))
     (λ c κs. merge-append (c .before .before .before .before .before .before .before .before .pre) _
     (c .before .before .before .before .before .child .ensures) _ _

@@ -4,7 +4,9 @@ use native.Mathlib.Omega.{arith}
 use borrow.Author.Needs.{needs}
 use denote.Ref.{now}
 use lib.ListN.{length, getD, length-set}
-use Rattle.repair.proofs.Pieces.{part, part-long, part-count, part-size, took-out}
+use Rattle.pool.proofs.Store.{part}
+use Rattle.tree.proofs.Standing.{lent-long, lent-count, lent-length}
+use Rattle.repair.proofs.Pieces.{took-out}
 use Rattle.repair.proofs.take_out.Statement.{statement}
 use Rattle.repair.proofs.take_out.Tie as tie
 
@@ -14,9 +16,9 @@ known : (c : tie.After-start-of) →
     let m = c .before .before .pre .seated .node in
     (length b ≡ 66) × (getD b 0 0 ≡ length (m .elems)) × (getD b 1 0 ≡ m .size)
 known c =
-    let s = c .before .before .pre .seated in
+    let m = c .before .before .pre .seated .node in
     let e = c .start-of .ensures in
-    (part-long s _ e, part-count s _ e, part-size s _ e)
+    (lent-long m _ e, lent-count m _ e, lent-length m _ e)
 
 returns : tie.Need-returns
 returns c s =

@@ -3,12 +3,12 @@ use Prim.Native.Nat.{ℕ, _<_}
 use native.Mathlib.Omega.{arith}
 use borrow.Fn.Kinds.{In}
 use borrow.Fn.PlainCycle.{Measures, is, falls, and}
+use Rattle.pool.proofs.count_at.Reads as count-at
 use Rattle.tree.proofs.Getting.{has-above, has-below}
 use Rattle.tree.proofs.Spanning.{ownNode, leaf-within, leaf-spans, separator-spans, child-spans}
 use Rattle.tree.proofs.stretch.Reads as own
 use Rattle.tree.proofs.stretch.Kinds as kinds
 use Rattle.tree.proofs.+stretch.Lts-stretch as lts
-use Rattle.tree.proofs.elements.Reads as elements
 use Rattle.tree.proofs.way_to.Reads as way-to
 use Rattle.tree.proofs.+stretch.{statement}
 use Rattle.tree.proofs.+stretch.Tie.{close}
@@ -21,16 +21,16 @@ module _ (t : ℕ) where
   at = and 1 kinds.ps (is 1 kinds.ps μ t) own.Pre
 
   abbrev claims : lts.Claims
-  claims = (elements.Asked, elements.Learnt, way-to.Asked, way-to.Learnt, and 1 kinds.ps (falls 1 kinds.ps _<_ μ t) own.Pre, own.Post)
+  claims = (count-at.Asked, count-at.Learnt, way-to.Asked, way-to.Learnt, and 1 kinds.ps (falls 1 kinds.ps _<_ μ t) own.Pre, own.Post)
 
-  elements-requires : lts.Need-elements-requires claims at own.Post
-  elements-requires c κs = ownNode (c .before .before .pre .1)
+  count-at-requires : lts.Need-count-at-requires claims at own.Post
+  count-at-requires c κs = ownNode (c .before .before .pre .1) .stored .inside
 
   sub-t8 : lts.Need-sub-t8 claims at own.Post
-  sub-t8 c = leaf-within _ (c .before .if1 .taken) (c .before .before .before .pre .1) _ (c .elements .ensures)
+  sub-t8 c = leaf-within _ (c .before .if1 .taken) (c .before .before .before .pre .1) _ (c .count-at .ensures)
 
   returns : lts.Need-returns claims at own.Post
-  returns c s = leaf-spans _ (c .before .if1 .taken) s _ (c .elements .ensures)
+  returns c s = leaf-spans _ (c .before .if1 .taken) s _ (c .count-at .ensures)
 
   way-to-requires : lts.Need-way-to-requires claims at own.Post
   way-to-requires c κs = has-above _ (c .if1 .left) (c .before .before .pre .1)
@@ -50,5 +50,5 @@ module _ (t : ℕ) where
 
 pub +stretch-spec : {M : Type 1} → statement M
 +stretch-spec =
-    close μ λ t. lts.spec (claims t) (at t) own.Post (elements-requires t) (sub-t8 t) (returns t) (way-to-requires t) (returns-2 t)
+    close μ λ t. lts.spec (claims t) (at t) own.Post (count-at-requires t) (sub-t8 t) (returns t) (way-to-requires t) (returns-2 t)
     (λ c. omega arith) (stretch-requires t) (returns-3 t)

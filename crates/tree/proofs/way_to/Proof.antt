@@ -1,5 +1,4 @@
 -- `way_to` meets its contract: the finder's place is the model's, and the words read after it are those of the child found.
-use native.Mathlib.Omega.{arith}
 use borrow.Author.Needs.{needs}
 use denote.Ref.{now}
 use Rattle.pool.specs.Parts.{Inside}
@@ -20,15 +19,12 @@ kid-requires c κs = (
 
 returns : tie.Need-returns
 returns c s =
-    let f = c .before .before .before .before in
-    way-turns s _ _ (f .before .before .start-of .ensures) (f .find-child-index .ensures) _ (c .before .before .before .kid .ensures) _ _
-    (c .before .before .start-of2 .ensures) (c .len .ensures)
+    let k = c .before in
+    let f = k .before in
+    way-turns s _ _ (f .before .before .start-of .ensures) (f .find-child-index .ensures) _ (k .kid .ensures) _ (c .length-at .ensures)
 
 pub way-to-spec : {M : Type 1} → statement M
 way-to-spec =
     tie.close
     (tie.spec (λ c κs. search needs) (λ c. search needs) (λ c. search needs) (λ c. search needs) (λ c. search needs) (λ c. search needs)
-    (λ c κs. way-inner (c .before .before .before .pre) _ (c .before .start-of .ensures)) kid-requires (λ c κs. omega (arith, inside c))
-    (λ c. omega (arith, inside (c .before)))
-    (λ c. omega (arith, inside (c .before))) (λ c. search needs) (λ c. search needs) (λ c. omega (arith, inside (c .before)))
-    (λ c κs. search needs) returns)
+    (λ c κs. way-inner (c .before .before .before .pre) _ (c .before .start-of .ensures)) kid-requires (λ c κs. inside c) returns)
