@@ -10,15 +10,20 @@ use lib.Seq.{sets, length-sets}
 use Rattle.words.specs.Words.{run}
 use Rattle.words.proofs.Laws.{sets-append, run-sets}
 use Rattle.model.specs.declared.Answer.{Answer}
-use Rattle.model.specs.Tree.{empty}
+use Rattle.model.specs.Tree.{Bag, empty}
 use Rattle.pool.specs.Sound.{Holds, fits}
 use Rattle.pool.proofs.Whole.{holds-empty}
 use Rattle.door.specs.Promise.{Formats}
 use Rattle.records.specs.Numbers.{bytesOf}
 use Rattle.batch.specs.declared.Ran.{Ran}
-use Rattle.batch.specs.Batch.{ranOf, Batches}
+use Rattle.batch.specs.Steps.{batchOf}
+use Rattle.batch.specs.Batch.{onBag, ranOf, Batches}
 use Rattle.batch.proofs.Room.{never-7}
 use Rattle.scan.specs.Scan.{mostInput, poolNodes, outputBytes, closing, ended, scanOf, Scans}
+
+-- 01: 18,436 bytes do for the most input
+pub enough-output : (input : List ℕ) (size : ℕ) → length input ≤ mostInput → 18436 ≤ size → (b : Bag) → batchOf onBag input size b .number ≡ 7 → ⊥
+enough-output input size few wide b = never-7 input size (omega arith) b .0
 
 -- ---- the last record
 
