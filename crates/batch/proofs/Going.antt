@@ -70,7 +70,11 @@ module _ {b : Bag} {input out w o : List ℕ} {k : Known} {commands read written
       → Runs (batchOf onBag input (length out) b) out (record { number = n; commands = commands; read = read; written = written }) w o
   stops n e =
       let f = sym (G .same) ∙ batch-stops onBag input (length out) _ (G .left) (G .enough) n (rw room at e) in
-      rw f (record { ran = ap (λ (m : ℕ). record { number = n; commands = commands; read = read; written = m }) (G .place); holds = G .holds; output = G .output })
+      rw f (record {
+        ran = ap (λ (m : ℕ). record { number = n; commands = commands; read = read; written = m }) (G .place);
+        holds = G .holds;
+        output = G .output;
+      })
 
   -- or goes on with a command
   module _ (c : Command) (n : ℕ) (e : turnAt input read (length o - written) ≡ Run c n) where

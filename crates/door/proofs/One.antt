@@ -23,7 +23,8 @@ decided {X} w f g h = go (sized? w) (sound? w)
     go (inl s) (inr u) = g s u
     go (inl s) (inl H) = h (H .0) (H .1)
 
-pub edits-one : {call : Bag → Outcome} {w w′ w″ : List ℕ} {r s : Answer} → Edits call w r w′ → Edits call w s w″ → (r ≡ s) × (w′ ≡ w″)
+pub edits-one : {call : Bag → Outcome} {w w′ w″ : List ℕ} {r s : Answer} → Edits call w r w′ → Edits call w s w″
+    → (r ≡ s) × (w′ ≡ w″)
 edits-one {w = w} P Q =
     decided w
     (λ n. (P .misfit n .0 ∙ sym (Q .misfit n .0), P .misfit n .1 ∙ sym (Q .misfit n .1)))

@@ -22,13 +22,15 @@ use Rattle.batch.proofs.Room.{never-7}
 use Rattle.scan.specs.Scan.{mostInput, poolNodes, outputBytes, closing, ended, scanOf, Scans}
 
 -- 01: 18,436 bytes do for the most input
-pub enough-output : (input : List ℕ) (size : ℕ) → length input ≤ mostInput → 18436 ≤ size → (b : Bag) → batchOf onBag input size b .number ≡ 7 → ⊥
+pub enough-output : (input : List ℕ) (size : ℕ) → length input ≤ mostInput → 18436 ≤ size → (b : Bag)
+    → batchOf onBag input size b .number ≡ 7 → ⊥
 enough-output input size few wide b = never-7 input size (omega arith) b .0
 
 -- ---- the last record
 
 pub closed : (s v w : List ℕ) (at end number commands read : ℕ) → end ≡ at + length (143 ∷ bytesOf 1 number ++ bytesOf 4 commands)
-    → v ≡ sets s at (143 ∷ bytesOf 1 number ++ bytesOf 4 commands) → w ≡ sets v end (bytesOf 4 read) → w ≡ sets s at (closing number commands read)
+    → v ≡ sets s at (143 ∷ bytesOf 1 number ++ bytesOf 4 commands) → w ≡ sets v end (bytesOf 4 read)
+    → w ≡ sets s at (closing number commands read)
 unfolding closing
 closed s v w at end number commands read e f g =
     let head = 143 ∷ bytesOf 1 number ++ bytesOf 4 commands in
@@ -88,7 +90,8 @@ module _ (input out : List ℕ) {w w′ out′ : List ℕ} {r : Ran} (H : Holds 
       let whole : out″ ≡ sets out 0 (answers ++ last) =
       e ∙ rw (ran, output, sets-append out 0 answers last, zero-add (length answers)) in
       let long : length (answers ++ last) ≡ length answers + 10 =
-      length-append answers last ∙ ap (λ (n : ℕ). length answers + n) (closing-length (ended input .number) (ended input .progress .commands) (ended input .progress .read)) in
+      length-append answers last
+      ∙ ap (λ (n : ℕ). length answers + n) (closing-length (ended input .number) (ended input .progress .commands) (ended input .progress .read)) in
       let fits : 0 + (length answers + 10) ≤ length out = omega (arith, short) in
       rw ran (record {
         fits = rw (whole, length-sets out 0 (answers ++ last)) short;

@@ -17,6 +17,13 @@ Inv-loop pool₀ input output₀ k₀ commands₀ read₀ written₀ pool output
 abbrev μ-loop : tie.MeasureT-loop
 μ-loop pool₀ input output₀ k₀ commands₀ read₀ written₀ pool output k commands read written = length input - read
 
+-- where the batch is at the loop's head
+going : (l : tie.At-loop Inv-loop μ-loop) →
+    let a = l .before .before .before .before in
+    let v = l .loop in
+    Going (a .pre .bag) (now (a .args .input)) (now (a .args .output)) (v .pool) (v .output) (v .k) (v .commands) (v .read) (v .written)
+going l = l .loop .inv .1 (l .before .before .before .before .pre)
+
 returns : tie.Need-returns Inv-loop μ-loop
 returns c s =
     let l = c .before .before .before .before in
@@ -24,37 +31,36 @@ returns c s =
 
 -- the turn of a command: it ends in the input, its record has room, and there were no more commands than bytes
 runs : (c : tie.After-known-told2 Inv-loop μ-loop) →
-    let l = c .before .before .before .before .loop in
+    let l = c .before .before .before .before in
+    let input = now (l .before .before .before .before .args .input) in
     let n = c .before .turn2 .given .0 .1 .0 in
-    (1 ≤ n) × (l .read + n ≤ length (now (c .before .before .before .before .before .before .before .before .args .input))) × (13 ≤ length (l .output) - l .written)
-    × (l .commands ≤ l .read) × (length (now (c .before .before .before .before .before .before .before .before .args .input)) < 2 ^ 64)
+    (1 ≤ n) × (l .loop .read + n ≤ length input) × (13 ≤ length (l .loop .output) - l .loop .written) × (l .loop .commands ≤ l .loop .read)
+    × (length input < 2 ^ 64)
 runs c =
-    let G = c .before .before .before .before .loop .inv .1 (c .before .before .before .before .before .before .before .before .pre) in
-    let f = can-run G _ _ (sym (c .before .before .before .turn-at .ensures) ∙ c .before .turn2 .given .1) in
-    (f .0, f .1, f .2, G .few, c .before .before .before .before .before .before .before .before .good .1 .1 .0 .0)
+    let l = c .before .before .before .before in
+    let f = can-run (going l) _ _ (sym (c .before .before .before .turn-at .ensures) ∙ c .before .turn2 .given .1) in
+    (f .0, f .1, f .2, going l .few, l .before .before .before .before .good .1 .1 .0 .0)
+
+abbrev added : (c : tie.After-k Inv-loop μ-loop) → tie.After-known-told2 Inv-loop μ-loop
+added c = c .before .before .before .before .before .before .before .before .before .before
 
 loop-again : tie.Need-loop-again Inv-loop μ-loop
 loop-again c =
-    let t = c .before .before .before .before .before .before .before .before in
+    let r = c .before .before .before in
+    let t = r .before .before .before .before .before in
     let l = t .before .before .before .before .before .before in
     let e = sym (t .before .before .before .before .before .turn-at .ensures) ∙ t .before .before .before .turn2 .given .1 in (
       t .perform .kept .0 ∙ l .loop .inv .0,
       λ s.
           let G = l .loop .inv .1 s in
-          goes G _ _ e _ (t .perform .ensures (now-ready G)) (c .before .before .before .before .reply-to .ensures) (c .before .before .before .write-record .ensures .0)
-          (c .before .before .before .write-record .ensures .1),
+          goes G _ _ e _ (t .perform .ensures (now-ready G)) (r .before .reply-to .ensures) (r .write-record .ensures .0) (r .write-record .ensures .1),
     )
 
 pub run-spec : {M : Type 1} → statement M
 run-spec =
     tie.close
-    (tie.spec Inv-loop μ-loop (λ c. (refl, λ s. begins s _ _))
-    (λ c. let G = c .loop .inv .1 (c .before .before .before .before .pre) in omega (arith, G .fits, same-room G))
-    (λ c κs. search needs) (λ c. search needs)
-    (λ c. c .before .before .before .before .loop .inv .0) (λ c. same-room (c .before .before .before .before .loop .inv .1 (c .before .before .before .before .before .before .before .before .pre)))
-    returns
-    (λ c. search needs)
-    (λ c κs. now-ready (c .before .before .before .before .before .loop .inv .1 (c .before .before .before .before .before .before .before .before .before .pre)))
-    (λ c κs. search needs)
-    (λ c κs. omega (arith, runs (c .before .before .before .before .before .before))) (λ c. omega (arith, runs (c .before .before .before .before .before .before .before .before .before .before))) (λ c. omega (arith, runs (c .before .before .before .before .before .before .before .before .before .before)))
-    (λ c. omega (arith, runs (c .before .before .before .before .before .before .before .before .before .before))) loop-again)
+    (tie.spec Inv-loop μ-loop (λ c. (refl, λ s. begins s _ _)) (λ c. omega (arith, going c .fits, same-room (going c))) (λ c κs. search needs)
+    (λ c. search needs) (λ c. c .before .before .before .before .loop .inv .0) (λ c. same-room (going (c .before .before .before .before))) returns
+    (λ c. search needs) (λ c κs. now-ready (going (c .before .before .before .before .before))) (λ c κs. search needs)
+    (λ c κs. omega (arith, runs (c .before .before .before .before .before .before))) (λ c. omega (arith, runs (added c)))
+    (λ c. omega (arith, runs (added c))) (λ c. omega (arith, runs (added c))) loop-again)

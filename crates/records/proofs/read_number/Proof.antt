@@ -40,5 +40,6 @@ returns c =
 pub read-number-spec : {M : Type 1} → statement M
 read-number-spec =
     tie.close
-    (tie.spec Inv-loop μ-loop loop-holds (λ c. omega arith) (λ c. omega (arith, seven-more _ _ 0 (c .before .loop .inv .2) (omega arith) (omega arith))) (λ c. omega arith) (λ c. omega arith)
+    (tie.spec Inv-loop μ-loop loop-holds (λ c. omega arith)
+    (λ c. omega (arith, seven-more _ _ 0 (c .before .loop .inv .2) (omega arith) (omega arith))) (λ c. omega arith) (λ c. omega arith)
     (λ c κs. search needs) add-x (λ c. omega arith) loop-again returns)

@@ -14,14 +14,17 @@ returns c =
 close-requires : tie.Need-close-requires-2
 close-requires c κs =
     let b = c .before .before .before .before in
-    answers-fit _ _ (formatted _ refl (b .before .before .before .before .format .ensures)) (b .before .before .before .before .before .before .before .before .before .pre) (omega arith) (b .batch .ensures)
+    let f = b .before .before .before .before in
+    answers-fit _ _ (formatted _ refl (f .format .ensures)) (f .before .before .before .before .before .pre) (omega arith) (b .batch .ensures)
 
 returns-2 : tie.Need-returns-2
 returns-2 c =
     let k = c .before .before .close2 in
     let b = c .before .before .before .before .before .before .before in
+    let f = b .before .before .before .before in
     rw (k .ensures .0)
-    (scans _ _ (formatted _ refl (b .before .before .before .before .format .ensures)) (b .before .before .before .before .before .before .before .before .before .pre) (omega arith) (b .batch .ensures) (k .ensures .1))
+    (scans _ _ (formatted _ refl (f .format .ensures)) (f .before .before .before .before .before .pre) (omega arith) (b .batch .ensures)
+    (k .ensures .1))
 
 pub scan-spec : {M : Type 1} → statement M
 scan-spec =
