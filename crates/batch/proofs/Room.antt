@@ -8,16 +8,18 @@ use lib.Dec.{eqb}
 use lib.ListN.{length, length-append}
 use Rattle.model.specs.declared.Answer.{Answer}
 use Rattle.model.specs.Tree.{Bag}
+use Rattle.door.proofs.One.{decided}
 use Rattle.records.specs.declared.Command.{Command}
 use Rattle.records.specs.declared.Command.the-variants.{Insert, Remove, Push, Get, Replace, Len}
 use Rattle.records.specs.declared.Record.{Record}
 use Rattle.records.specs.declared.Record.the-variants.{Refusal}
 use Rattle.records.specs.Answers.{recordBytes}
 use Rattle.records.proofs.Laws.{Bodied, Fits, next-fits}
+use Rattle.batch.specs.declared.Ran.{Ran}
 use Rattle.batch.specs.declared.Turn.{Turn}
 use Rattle.batch.specs.declared.Turn.the-variants.{Stop, Run}
 use Rattle.batch.specs.Steps.{turnAt, Progress, Ended, start, advanced, batchFrom, batchOf}
-use Rattle.batch.specs.Batch.{perform, given, replyTo, onBag}
+use Rattle.batch.specs.Batch.{perform, given, replyTo, onBag, Batches}
 use Rattle.batch.proofs.Turns.{Runnable, runnable, Open, stays-open, batch-stops, batch-goes}
 
 given-small : (c : Command) (a : Answer) (n : ℕ) → 1 ≤ n → Bodied c (n - 1) → length (recordBytes (given c a)) ≤ 9 * n
@@ -71,3 +73,12 @@ module _ (input : List ℕ) (size : ℕ) (wide : 9 * length input + 4 ≤ size) 
 
   pub never-7 : (b : Bag) → Never7 (batchOf onBag input size b)
   never-7 b = never7 (length input) (start b) (omega arith) (omega arith, omega arith)
+
+-- what a batch wrote then lies in the output, whatever the pool is
+pub written-fits : {w : List ℕ} (input : List ℕ) {out : List ℕ} {r : Ran} {w′ out′ : List ℕ} → 9 * length input + 4 ≤ length out
+    → Batches w input out r w′ out′ → r .written ≤ length out
+written-fits {w} input {out} wide P =
+    decided w (λ n. rw (P .misfit n .ran) (omega arith)) (λ z u. rw (P .unsound z u .ran) (omega arith))
+    (λ b H.
+    let N = never-7 input (length out) wide b in
+    rw (P .holds b H .ran) (omega (arith, N .1 .0, N .1 .1)))

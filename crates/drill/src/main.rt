@@ -1,5 +1,7 @@
 // Builds and empties a long list in every pair of orders, and writes for each pair a digest of the pool's words and the answers.
 ghost use Prim.Native.Nat.{_≤_};
+use digest::rolled;
+use digest::rolled_words;
 use model::Answer;
 use pool::HEAD_WORDS;
 use pool::NODE_WORDS;
@@ -23,23 +25,8 @@ fn place(order: u64, n: u64) -> u64
     }
 }
 
-// A digest with one more number in it.
-fn rolled(digest: u64, x: u64) -> u64 {
-    (digest << 5 | digest >> 59) ^ x
-}
-
 fn rolled_answer(digest: u64, a: Answer) -> u64 {
     rolled(rolled(rolled(digest, a.number), a.value), a.compared)
-}
-
-fn rolled_words(digest: u64, words: &[u64]) -> u64 {
-    let mut rolling = digest;
-    let mut i = 0;
-    while i < words.len() {
-        rolling = rolled(rolling, words[i]);
-        i += 1;
-    }
-    rolling
 }
 
 // Puts every element in: the n-th is n times a prime.

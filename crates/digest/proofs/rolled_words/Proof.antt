@@ -2,8 +2,8 @@
 use Prim.Native.Nat.{_≤_, _-_}
 use borrow.Author.Needs.{needs}
 use lib.ListN.{length}
-use Rattle.drill.proofs.rolled_words.Statement.{statement}
-use Rattle.drill.proofs.rolled_words.Tie as tie
+use Rattle.digest.proofs.rolled_words.Statement.{statement}
+use Rattle.digest.proofs.rolled_words.Tie as tie
 
 abbrev Inv-loop : tie.InvT-loop
 Inv-loop digest words rolling₀ i₀ rolling i = i ≤ length words
