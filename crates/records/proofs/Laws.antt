@@ -1,12 +1,13 @@
 -- The laws of numbers in bytes.
-use mathlib.Core.Path.{_≡_, refl, sym, ap, subst, _∙_}
+use mathlib.Core.Path.{_≡_, refl, sym, ap, ap₂, subst, _∙_}
 use mathlib.Core.List.{List, [], _∷_, _++_}
 use mathlib.Core.Bool.{Bool, true, false, cond}
-use Prim.Native.Nat.{ℕ, zero, suc, _+_, _-_, _*_, _/_, _^_, _≤_, _<_}
+use Prim.Native.Nat.{ℕ, zero, suc, _+_, _-_, _*_, _/_, _%_, _^_, _≤_, _<_}
 use native.Mathlib.Omega.{arith}
 use lib.Dec.{eqb, leb}
 use lib.ListN.{length, getD}
 use lib.Pow.{pow-add, pow-mono}
+use Rattle.lists.proofs.All.{All, nil, cons}
 use Rattle.words.specs.Words.{run}
 use Rattle.words.proofs.Laws.{run-cons}
 use Rattle.records.specs.Numbers.{bytesOf, numberOf, numberAt}
@@ -26,6 +27,24 @@ pub bytes-length : (n x : ℕ) → length (bytesOf n x) ≡ n
 unfolding bytesOf
 bytes-length zero x = refl
 bytes-length (suc n) x = ap suc (bytes-length n (x / 256))
+
+-- ---- there and back: a number that fits its bytes is read as it was written, and bytes are written as they were read
+
+pub number-bytes : (n x : ℕ) → x < 2 ^ (8 * n) → numberOf (bytesOf n x) ≡ x
+unfolding bytesOf numberOf
+number-bytes zero x h = omega arith
+number-bytes (suc n) x h =
+    let a : 8 * suc n ≡ 8 + 8 * n = omega arith in
+    let l = rw (a, pow-add 2 8 (8 * n)) at h in
+    rw (number-bytes n (x / 256) (omega arith)) (omega arith)
+
+pub bytes-number : {bs : List ℕ} → All (λ b. b < 256) bs → bytesOf (length bs) (numberOf bs) ≡ bs
+unfolding bytesOf numberOf
+bytes-number nil = refl
+bytes-number (cons {x = b} {xs = bs} l ls) =
+    let low : (b + 256 * numberOf bs) % 256 ≡ b = omega arith in
+    let high : (b + 256 * numberOf bs) / 256 ≡ numberOf bs = omega arith in
+    rw (low, high, bytes-number ls)
 
 -- ---- reading, last byte first
 

@@ -44,7 +44,7 @@ pub enum Record {
 }
 
 // A byte as a number.
-fn wide(b: u8) -> u64
+pub fn wide(b: u8) -> u64
     ensures { λ r. ⌜ r ≡ b ⌝ }
     ensures { λ r. ⌜ r < 256 ⌝ }
 {

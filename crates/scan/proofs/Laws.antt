@@ -1,14 +1,16 @@
 -- The laws of the program's work: the empty list that it starts from, the answers, and the last record behind them.
 use mathlib.Core.Path.{_≡_, refl, sym, ap, _∙_}
 use mathlib.Core.List.{List, [], _∷_, _++_}
+use mathlib.Core.Bool.{Bool, true, false, cond}
 use Prim.Native.Nat.{ℕ, _+_, _*_, _≤_, _<_}
 use native.Mathlib.Nat.{zero-add}
 use native.Mathlib.Omega.{arith}
 use borrow.Author.Tests.{lt-ltb, le-ltb}
+use lib.Dec.{ltb}
 use lib.ListN.{length, length-append}
 use lib.Seq.{sets, length-sets}
 use Rattle.words.specs.Words.{run}
-use Rattle.words.proofs.Laws.{sets-append, run-sets}
+use Rattle.words.proofs.Laws.{sets-append, run-sets, run-length}
 use Rattle.model.specs.declared.Answer.{Answer}
 use Rattle.model.specs.Tree.{Bag, empty}
 use Rattle.pool.specs.Sound.{Holds, fits}
@@ -97,3 +99,24 @@ module _ (input out : List ℕ) {w w′ out′ : List ℕ} {r : Ran} (H : Holds 
         fits = rw (whole, length-sets out 0 (answers ++ last)) short;
         bytes = rw (whole, le-ltb mostInput (length input) few) (run-sets out 0 (answers ++ last) (length answers + 10) long fits);
       })
+
+-- whatever the input, the last record is there
+pub at-least-last : {input out : List ℕ} {r : ℕ} → Scans input r out → 10 ≤ r
+unfolding scanOf
+at-least-last {input} {out} {r} S = go (ltb mostInput (length input)) (S .bytes)
+  where
+    answers : List ℕ
+    answers = ended input .progress .answers
+
+    last : List ℕ
+    last = closing (ended input .number) (ended input .progress .commands) (ended input .progress .read)
+
+    ten : length last ≡ 10
+    ten = closing-length (ended input .number) (ended input .progress .commands) (ended input .progress .read)
+
+    long : length (run out 0 r) ≡ r
+    long = run-length out 0 r (omega (arith, S .fits))
+
+    go : (b : Bool) → run out 0 r ≡ cond b (closing 8 0 0) (answers ++ last) → 10 ≤ r
+    go true e = omega (arith, long, ap length e, closing-length 8 0 0)
+    go false e = omega (arith, long, ap length e, length-append answers last, ten)
