@@ -1,4 +1,4 @@
--- What the functions on single nodes read and leave.
+-- What the functions on single nodes leave.
 use mathlib.Core.Path.{_≡_, refl, sym, ap, _∙_}
 use mathlib.Core.List.{List, [], _∷_}
 use mathlib.Core.Logic.{_≢_, _⊎_}

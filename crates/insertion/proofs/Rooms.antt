@@ -1,4 +1,4 @@
--- The steps of an insertion, in the model: the node in which there is room, what is inserted through it, and a full root raised.
+-- The steps of an insertion, in the model: the node in which there is room, and what is inserted through it.
 use mathlib.Core.Path.{_≡_, refl, ap}
 use mathlib.Core.Bool.{Bool, true, false}
 use mathlib.Core.List.{List, [], _∷_}
@@ -13,7 +13,7 @@ use Rattle.lists.proofs.Sums.{total-set}
 use Rattle.model.specs.Tree.{Tree, kid, none, size, flat, find, withKid}
 use Rattle.model.specs.Fit.{Fit}
 use Rattle.model.specs.Insert.{isFull, splitChild, Grown, insertNonFull, neededBelow}
-use Rattle.model.proofs.Nodes.{child, most, flat-length, Rearranged}
+use Rattle.model.proofs.Nodes.{most, flat-length, Rearranged}
 use Rattle.model.proofs.Find.{into, step}
 use Rattle.model.proofs.Split.{split-law}
 use Rattle.model.proofs.Insert.{full, not-full, Inserted, through, after-split}

@@ -1,4 +1,4 @@
--- The whole list: its root as the caller knows it, a full root raised, and what stands after an insertion.
+-- The whole list: its root, the nodes that an insertion needs, and a full root raised.
 use mathlib.Core.Path.{_≡_, refl, sym, ap, ap₂, subst, _∙_}
 use mathlib.Core.Bool.{Bool, true, false}
 use mathlib.Core.List.{List, [], _∷_, _++_}

@@ -11,7 +11,7 @@ use Rattle.model.specs.declared.Stretch.{Stretch}
 use Rattle.model.specs.Tree.{Tree, size, find, atSeparator}
 use Rattle.model.specs.Fit.{Fit}
 use Rattle.model.specs.Calls.{stretch}
-use Rattle.model.proofs.Nodes.{held, held-id, held-kid, most}
+use Rattle.model.proofs.Nodes.{held, held-id, held-kid}
 use Rattle.model.proofs.Find.{into, Step, step, separator}
 
 -- at a separator, and inside a child

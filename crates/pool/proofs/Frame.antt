@@ -1,4 +1,4 @@
--- What an edit elsewhere leaves: a tree and a chain stand where they stood, if the blocks of their own nodes are as they were.
+-- What an edit leaves: a tree and a chain whose own nodes have the same words; one node with new words; one edit after another.
 use mathlib.Core.Path.{_≡_, refl, sym, subst₂, _∙_}
 use mathlib.Core.List.{List, [], _∷_, _++_, map}
 use Prim.Native.Nat.{ℕ, zero, suc, _≤_, _<_}
