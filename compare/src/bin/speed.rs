@@ -3,21 +3,12 @@ use std::hint::black_box;
 use std::process::exit;
 use std::time::Instant;
 
+use compare::bag;
+use compare::random::Random;
+
 const NODES: usize = 4096;
 const ROUNDS: usize = 400;
 const BAR: f64 = 4.0;
-
-/// Random numbers, the same in each run.
-struct Random(u64);
-
-impl Random {
-    fn below(&mut self, n: u64) -> u64 {
-        self.0 ^= self.0 << 13;
-        self.0 ^= self.0 >> 7;
-        self.0 ^= self.0 << 17;
-        self.0 % n
-    }
-}
 
 fn free() -> Vec<u64> {
     let mut pool = vec![0; bag::words(NODES)];
@@ -87,7 +78,7 @@ fn measure(name: &str, pool: &[u64]) -> f64 {
 }
 
 fn main() {
-    let random = &mut Random(20261115);
+    let random = &mut Random::new(20261115);
     let full = shuffled(random);
     let half = thinned(full.clone(), bag::len(&full).value / 2, random);
     let none = thinned(half.clone(), 0, random);
