@@ -55,10 +55,11 @@ impl Workload {
         Workload { random: Random::new(seed), phase: Phase::Drift(100, Place::Any), left: 0, asides }
     }
 
-    /// Starts with growth to the end of the room, by insertions at random or by pushes.
-    pub fn full(seed: u64, asides: u64, calls: u64) -> Workload {
-        let place = if seed % 2 == 0 { Place::Any } else { Place::Back };
-        Workload { random: Random::new(seed), phase: Phase::Drift(100, place), left: calls, asides }
+    /// Starts with growth to the end of the room of p nodes, by insertions at random or by pushes.
+    pub fn full(seed: u64, asides: u64, p: u64) -> Workload {
+        // A node holds about 21 elements after the first, and 15 after the others; the asides come on top.
+        let (place, calls) = if seed % 2 == 0 { (Place::Any, 24) } else { (Place::Back, 17) };
+        Workload { random: Random::new(seed), phase: Phase::Drift(100, place), left: calls * p, asides }
     }
 
     fn turn(&mut self, p: u64) {

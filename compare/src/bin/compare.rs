@@ -36,7 +36,9 @@ const LONG: Plan = Plan { calls: 20_000_000, damaged: 1_000_000, programs: 10_00
 /// A sequence of calls on a pool of p nodes; then damage to what it leaves.
 fn sequence(p: usize, seed: u64, calls: u64, damages: u64, tally: &mut Tally) {
     let every = if p <= 40 { 1 } else { (p as u64 / 16).next_power_of_two() };
-    let mut workload = if p > 300 { Workload::full(seed, 10, calls * 2 / 3) } else { Workload::new(seed, 20) };
+    let fills = p > 300 || seed % 3 == 0;
+    let calls = if fills { calls + 28 * p as u64 } else { calls };
+    let mut workload = if fills { Workload::full(seed, 10, p as u64) } else { Workload::new(seed, 20) };
     let mut trace = Vec::new();
     let damage = &mut Random::new(seed ^ 0xDA3A6E);
     let mut trial = match Trial::new(p, every) {
@@ -109,8 +111,8 @@ fn compare(plan: Plan, seed: u64) -> Tally {
         for p in 0..=300 {
             sequence(p, random.any(), 600 + 15 * p as u64, 250, &mut tally);
         }
-        sequence(1024, random.any(), 40_000, 40, &mut tally);
-        sequence(4096, random.any(), 100_000, 10, &mut tally);
+        sequence(1024, random.any(), 15_000, 100, &mut tally);
+        sequence(4096, random.any(), 15_000, 30, &mut tally);
         let (calls, damaged, seconds) = (tally.calls, tally.damaged, start.elapsed().as_secs());
         println!("round {round}: {calls} calls, {damaged} damaged pools, {} differences, {seconds} s", tally.differences);
         if tally.differences > 20 {
