@@ -39,7 +39,7 @@ fn other(random: &mut Random, value: u64) -> u64 {
     one(random, [value.wrapping_add(1), value.wrapping_sub(1), value ^ bit, !value, value ^ bit])
 }
 
-pub const CLAUSES: u64 = 32;
+pub const CLAUSES: u64 = 33;
 
 /// Breaks a clause of soundness in a sound pool. None if the pool has not what it takes.
 pub fn break_clause(pool: &mut [u64], clause: u64, random: &mut Random) -> Option<()> {
@@ -91,7 +91,8 @@ pub fn break_clause(pool: &mut [u64], clause: u64, random: &mut Random) -> Optio
         // several words, with all else in order
         29 => return thin(pool, &nodes, random),
         30 => return raise(pool, &nodes),
-        _ => return empty_root(pool),
+        31 => return empty_root(pool),
+        _ => return double(pool, inner?, random),
     };
     if pool[word] == value {
         return None;
@@ -168,6 +169,18 @@ fn empty_root(pool: &mut [u64]) -> Option<()> {
     pool[at(k, CHILDREN)] = pool[0];
     pool[0] = k;
     measure(pool, k);
+    Some(())
+}
+
+/// One child of node k takes the place of another as well, which is freed.
+fn double(pool: &mut [u64], k: u64, random: &mut Random) -> Option<()> {
+    let n = pool[at(k, 0)];
+    let kept = random.below(n + 1);
+    let gone = (kept + random.within(1, n)) % (n + 1);
+    let slot = at(k, CHILDREN + gone as usize);
+    give(pool, pool[slot]);
+    pool[slot] = pool[at(k, CHILDREN + kept as usize)];
+    measure(pool, pool[0]);
     Some(())
 }
 

@@ -32,7 +32,7 @@ fn any_call(random: &mut Random, words: usize) -> Call {
         8 => Call::Step(index),
         9 => Call::Skip(index, random.huge()),
         10 => Call::Window(index),
-        11 => Call::Equal(0),
+        11 => Call::Equal(random.below(3)),
         _ => {
             let (input, room) = batches::batch(random, 10, 6);
             Call::Batch(input, room)
@@ -43,7 +43,10 @@ fn any_call(random: &mut Random, words: usize) -> Call {
 /// The answer and output bytes of a call.
 fn made(pool: &mut [u64], call: &Call) -> (Fields, Vec<u8>) {
     match call {
-        Call::Equal(_) => (answer(bag::equal(pool, pool)), Vec::new()),
+        // With itself, or before or after a pool of no length.
+        Call::Equal(0) => (answer(bag::equal(pool, pool)), Vec::new()),
+        Call::Equal(1) => (answer(bag::equal(pool, &[])), Vec::new()),
+        Call::Equal(_) => (answer(bag::equal(&[], pool)), Vec::new()),
         Call::Batch(input, room) => {
             let mut output = vec![FILLER; *room];
             (ran(bag::batch(pool, input, &mut output)), output)
@@ -58,6 +61,9 @@ fn due(pool: &[u64], verdict: u64, call: &Call) -> Result<(Fields, Vec<u8>, Vec<
     if *call == Call::Format && verdict != 4 {
         let formatted = Mirror::new((pool.len() - 2) / sound::NODE_WORDS);
         return Ok(([0; 4], Vec::new(), formatted.model.words().to_vec()));
+    }
+    if *call == Call::Equal(2) || (*call == Call::Equal(1) && verdict == 0) {
+        return Ok(([4, 0, 0, 0], Vec::new(), pool.to_vec()));
     }
     if verdict != 0 {
         return Ok((refusal(verdict, call), vec![FILLER; room], pool.to_vec()));
