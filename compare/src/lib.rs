@@ -5,6 +5,7 @@ pub mod calls;
 pub mod damage;
 pub mod mirror;
 pub mod model;
+pub mod ordinary;
 pub mod program;
 pub mod random;
 pub mod record;

@@ -60,7 +60,11 @@ impl Trial {
                 let due = self.mirror.due(call)?;
                 same("the answer", ask(self.pool(), call), due)?;
                 // A window has no number.
-                if matches!(call, Call::Window(_)) { 0 } else { due[0] }
+                if matches!(call, Call::Window(_)) {
+                    0
+                } else {
+                    due[0]
+                }
             }
         };
         self.numbers[number as usize] += 1;

@@ -147,7 +147,10 @@ fn main() -> Result<(), Box<dyn std::error::Error>> {
     println!("seed {seed}");
     let tally = compare(plan, seed);
     let Tally { calls, damaged, batches, programs, differences, numbers, verdicts } = tally;
-    println!("due of a call, by number from 0 to 7: {numbers:?}; of a damaged pool: {} sound, {} 1, {} 4", verdicts[0], verdicts[1], verdicts[4]);
+    println!(
+        "due of a call, by number from 0 to 7: {numbers:?}; of a damaged pool: {} sound, {} 1, {} 4",
+        verdicts[0], verdicts[1], verdicts[4]
+    );
     println!("{calls} calls, {damaged} damaged pools, {batches} batches, {programs} runs of the program, {differences} differences");
     exit((differences > 0) as i32)
 }
