@@ -22,9 +22,6 @@ const UNTOUCHED: u8 = 0xEE;
 
 const LAST_RECORD: usize = 10;
 
-// The largest prime of 56 bits.
-const PRIME: u64 = 72057594037927931;
-
 // How many insertions with a lookup behind each go into the program's input.
 const INSERTIONS: usize = 113;
 
@@ -106,18 +103,7 @@ fn each_cut(pool: &mut [u64]) {
     }
 }
 
-// The bytes as one number, the first byte the highest, modulo the prime.
-fn remainder_of(bytes: &[u8]) -> u64 {
-    let mut x = 0;
-    let mut i = 0;
-    while i < bytes.len() {
-        x = (x * 256 + records::wide(bytes[i])) % PRIME;
-        i += 1;
-    }
-    x
-}
-
-// The program's work: the lengths of input and answer, the last record, and the remainder of the answer.
+// The program's work: the lengths of input and answer, the last record, and a digest of the answer.
 fn work(input: &[u8]) {
     let mut output = [UNTOUCHED; OUTPUT_BYTES];
     let n = scan::scan(input, &mut output);
@@ -126,7 +112,7 @@ fn work(input: &[u8]) {
     show_number(input.len() as u64);
     show_number(n as u64);
     show(&output[last..n]);
-    show_number(remainder_of(&output[..n]));
+    show_number(digest::rolled_bytes(0, &output[..n]));
     io::write_all(1, b"\n");
 }
 
