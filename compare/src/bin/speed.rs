@@ -137,12 +137,11 @@ fn calls(n: u64, random: &mut Random) {
         on_tree(&mut tree, &call);
     }
     let mut output = vec![0; batches::LONGEST * (count as usize + 1)];
-    let mut times: [[Vec<f64>; 3]; 3] = Default::default();
-    let mut checks = Vec::new();
+    let mut times: [[Vec<f64>; 4]; 3] = Default::default();
     let each = |time: f64, calls: usize| time * 1000.0 / calls as f64;
     for _ in 0..if n > 10_000 { 41 } else { 401 } {
         // Each list keeps its n: what a round inserts it removes again.
-        for (kind, [library, batch, rust]) in KINDS.iter().zip(&mut times) {
+        for (kind, [library, checks, batch, rust]) in KINDS.iter().zip(&mut times) {
             let made: Vec<Call> = (0..count).map(|_| command(kind, random.below(n), random.any())).collect();
             let few = &made[..made.len().min(50)];
             library.push(each(time(|| few.iter().for_each(|call| assert!(ask(&mut pool, call)[0] == 0))), few.len()));
@@ -154,9 +153,8 @@ fn calls(n: u64, random: &mut Random) {
             batch.push(each(time(|| bag::batch(&mut pool, &input, &mut output)) - check, made.len()));
         }
     }
-    let check = of(checks).0;
     for (kind, lines) in KINDS.iter().zip(times) {
-        let [library, batch, rust] = lines.map(|times| of(times).0);
+        let [library, check, batch, rust] = lines.map(|times| of(times).0);
         let ratio = batch / rust;
         println!("| {n} | {nodes} | {kind} | {library:.0} | {check:.0} | {batch:.0} | {rust:.0} | {ratio:.2} |");
     }
