@@ -33,7 +33,7 @@ struct Plan {
 const SHORT: Plan = Plan { calls: 400_000, damaged: 40_000, programs: 400 };
 const LONG: Plan = Plan { calls: 20_000_000, damaged: 1_000_000, programs: 10_000 };
 
-/// A sequence of calls on a pool of p nodes; then damage to what it leaves.
+/// A sequence of calls on a pool of p nodes, with damage now and then to a copy of it.
 fn sequence(p: usize, seed: u64, calls: u64, damages: u64, tally: &mut Tally) {
     let every = if p <= 40 { 1 } else { (p as u64 / 16).next_power_of_two() };
     let fills = p > 300 || seed % 3 == 0;

@@ -124,10 +124,10 @@ fn touch(node: Shape<u64>) -> u64 {
     sum(node.elements()).wrapping_add(node.children().map(touch).fold(0, u64::wrapping_add))
 }
 
-/// The calls on a list of n samples, in a pool with room for more: the library's call, the check in it, the same command in a batch,
-/// and the Rust's call. Nanoseconds, medians.
+/// The calls on a list of n samples, in a pool with room for more: the library's call, the check in it, the same command in a batch
+/// without the batch's check, and the Rust's call. Nanoseconds, medians.
 fn calls(n: u64, random: &mut Random) {
-    let count = (n / 10).clamp(10, 200);
+    let count = (n / 10).clamp(10, 2000);
     let nodes = (n / 10) as usize + 4;
     let mut pool = free(nodes);
     let mut tree = SequenceTree::new();
@@ -137,24 +137,24 @@ fn calls(n: u64, random: &mut Random) {
         on_tree(&mut tree, &call);
     }
     let mut output = vec![0; batches::LONGEST * (count as usize + 1)];
-    let mut times: [[Vec<f64>; 3]; 3] = Default::default();
-    let mut checks = Vec::new();
+    let mut times: [[Vec<f64>; 4]; 3] = Default::default();
+    let each = |time: f64, calls: usize| time * 1000.0 / calls as f64;
     for _ in 0..if n > 10_000 { 41 } else { 401 } {
-        // Each list keeps its n: what a round inserts it removes again, twice in the pool.
-        for (kind, [library, batch, rust]) in KINDS.iter().zip(&mut times) {
+        // Each list keeps its n: what a round inserts it removes again.
+        for (kind, [library, checks, batch, rust]) in KINDS.iter().zip(&mut times) {
             let made: Vec<Call> = (0..count).map(|_| command(kind, random.below(n), random.any())).collect();
-            library.push(time(|| made.iter().for_each(|call| assert!(ask(&mut pool, call)[0] == 0))));
+            let few = &made[..made.len().min(50)];
+            library.push(each(time(|| few.iter().for_each(|call| assert!(ask(&mut pool, call)[0] == 0))), few.len()));
             black_box(tree.shape().map(touch));
-            rust.push(time(|| made.iter().fold(0, |all: u64, call| all.wrapping_add(on_tree(&mut tree, call)))));
+            rust.push(each(time(|| made.iter().fold(0, |all: u64, call| all.wrapping_add(on_tree(&mut tree, call)))), made.len()));
             let input: Vec<u8> = made.iter().filter_map(batches::bytes).flatten().collect();
-            batch.push(time(|| bag::batch(&mut pool, &input, &mut output)));
+            let check = time(|| few.iter().for_each(|_| assert!(bag::check(black_box(&pool)).number == 0))) / few.len() as f64;
+            checks.push(each(check, 1));
+            batch.push(each(time(|| bag::batch(&mut pool, &input, &mut output)) - check, made.len()));
         }
-        checks.push(time(|| (0..count).for_each(|_| assert!(bag::check(black_box(&pool)).number == 0))));
     }
-    let each = |times: &[f64]| of(times.to_vec()).0 * 1000.0 / count as f64;
-    let check = each(&checks);
-    for (kind, [library, batch, rust]) in KINDS.iter().zip(&times) {
-        let (library, batch, rust) = (each(library), each(batch) - check / count as f64, each(rust));
+    for (kind, lines) in KINDS.iter().zip(times) {
+        let [library, check, batch, rust] = lines.map(|times| of(times).0);
         let ratio = batch / rust;
         println!("| {n} | {nodes} | {kind} | {library:.0} | {check:.0} | {batch:.0} | {rust:.0} | {ratio:.2} |");
     }
