@@ -1,4 +1,4 @@
-//! A fixed list of commands with their answers, for a program that replays it through the batch.
+//! A fixed list of commands, and what the program `replay` must write for it.
 use std::io::Write;
 
 use crate::batches;
@@ -26,33 +26,39 @@ const BLOCKS: [(usize, usize); 14] = [
     (60, 24576),
 ];
 
-/// Writes blocks, each a batch on a pool that is formatted before it. A block has the pool's nodes, the bytes of commands and the
-/// bytes of answers, 4 bytes each; the commands; the answers; and the pool's words afterwards, 8 bytes each. Numbers are little-endian.
+/// A digest with one more number in it, as in `crates/digest`.
+fn rolled(digest: u64, x: u64) -> u64 {
+    let sum = digest.wrapping_add(x).wrapping_add(0x9E37_79B9_7F4A_7C15);
+    let spread = sum.wrapping_add(sum << 10);
+    spread ^ spread >> 6
+}
+
+/// Writes blocks, each a batch on a pool that is formatted before it: the pool's nodes and the bytes of commands, 4 bytes each and
+/// little-endian, and the commands. What is due for a block: the answers, a digest of the pool's words afterwards in 16 digits, and a
+/// line end.
 ///
-/// The commands are a workload's, for an odd block one that fills the pool first. The answers and words are what the mirror says is
-/// due: the library has no part in it. Gives the number of commands.
-pub fn write(out: &mut impl Write) -> Result<u64, Box<dyn std::error::Error>> {
+/// The commands are a workload's, for an odd block one that fills the pool first. What is due is what the mirror says: the library
+/// has no part in it. Gives the number of commands.
+pub fn write(list: &mut impl Write, due: &mut impl Write) -> Result<u64, Box<dyn std::error::Error>> {
     let mut all = 0;
     for (block, (p, most)) in BLOCKS.into_iter().enumerate() {
         let seed = SEED + block as u64;
         let mut workload = if block % 2 == 1 { Workload::full(seed, 25, p as u64) } else { Workload::new(seed, 25) };
         let mut mirror = Mirror::new(p);
-        let (mut commands, mut answers) = (Vec::new(), Vec::new());
+        let mut commands = Vec::new();
         while commands.len() + 13 <= most {
             let Some(bytes) = batches::bytes(&workload.next(&mirror)) else { continue };
             let (_, answer) = batches::due(&mut mirror, &bytes, batches::LONGEST)?;
             commands.extend(bytes);
-            answers.extend(answer);
+            due.write_all(&answer)?;
             all += 1;
         }
-        for number in [p, commands.len(), answers.len()] {
-            out.write_all(&(number as u32).to_le_bytes())?;
+        for number in [p, commands.len()] {
+            list.write_all(&(number as u32).to_le_bytes())?;
         }
-        out.write_all(&commands)?;
-        out.write_all(&answers)?;
-        for word in mirror.model.words() {
-            out.write_all(&word.to_le_bytes())?;
-        }
+        list.write_all(&commands)?;
+        let digest = mirror.model.words().iter().fold(0, |digest, &word| rolled(digest, word));
+        writeln!(due, "{digest:016x}")?;
     }
     Ok(all)
 }

@@ -1,6 +1,6 @@
 //! Long random call sequences on the library, the original, a `Vec` and the driver's own model of 01, with every difference shown.
 //!
-//!     compare short SEED | compare long SEED | compare record FILE
+//!     compare short SEED | compare long SEED | compare record LIST DUE
 use std::process::exit;
 use std::time::Instant;
 
@@ -124,7 +124,7 @@ fn compare(plan: Plan, seed: u64) -> Tally {
 }
 
 fn usage() -> ! {
-    eprintln!("usage: compare short SEED | compare long SEED | compare record FILE");
+    eprintln!("usage: compare short SEED | compare long SEED | compare record LIST DUE");
     exit(2)
 }
 
@@ -134,8 +134,9 @@ fn main() -> Result<(), Box<dyn std::error::Error>> {
     let (plan, seed) = match words[..] {
         ["short", seed] => (SHORT, seed.parse()?),
         ["long", seed] => (LONG, seed.parse()?),
-        ["record", file] => {
-            let commands = record::write(&mut std::io::BufWriter::new(std::fs::File::create(file)?))?;
+        ["record", list, due] => {
+            let create = |file| std::fs::File::create(file).map(std::io::BufWriter::new);
+            let commands = record::write(&mut create(list)?, &mut create(due)?)?;
             println!("{commands} commands");
             return Ok(());
         }
