@@ -1,7 +1,7 @@
 -- The batch's loop: where the code is, and where the definition is then.
 use mathlib.Core.Path.{_≡_, refl, sym, ap, subst, _∙_}
 use mathlib.Core.List.{List, [], _++_}
-use Prim.Native.Nat.{ℕ, _+_, _-_, _≤_, _<_}
+use Prim.Native.Nat.{ℕ, _+_, _-_, _≤_}
 use native.Mathlib.Nat.{zero-add}
 use native.Mathlib.Omega.{arith}
 use lib.ListN.{length, length-append}
@@ -15,11 +15,10 @@ use Rattle.calls.specs.declared.Done.{Done}
 use Rattle.calls.specs.Does.{Ready, Does}
 use Rattle.records.specs.declared.Command.{Command}
 use Rattle.records.specs.declared.Record.{Record}
-use Rattle.records.specs.Answers.{recordBytes, longestRecord}
+use Rattle.records.specs.Answers.{recordBytes}
 use Rattle.records.proofs.Laws.{record-length}
 use Rattle.batch.specs.declared.Turn.the-variants.{Stop, Run}
-use Rattle.batch.specs.declared.Ran.{Ran}
-use Rattle.batch.specs.Steps.{turnAt, Progress, start, batchFrom, batchOf}
+use Rattle.batch.specs.Steps.{turnAt, batchFrom, batchOf}
 use Rattle.batch.specs.Batch.{perform, replyTo, onBag, Runs}
 use Rattle.batch.proofs.Turns.{Runnable, runnable, batch-stops, batch-goes}
 

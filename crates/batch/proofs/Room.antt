@@ -1,6 +1,6 @@
 -- How much a batch writes: at most 9 bytes for a byte read, so that an output of 9 bytes for each and 4 more never stops it with 7.
-use mathlib.Core.Path.{_≡_, refl, sym, subst, _∙_}
-use mathlib.Core.List.{List, _++_}
+use mathlib.Core.Path.{_≡_, refl, subst}
+use mathlib.Core.List.{List}
 use mathlib.Core.Bool.{Bool, true, false, cond}
 use Prim.Native.Nat.{ℕ, zero, suc, _+_, _-_, _*_, _≤_}
 use native.Mathlib.Omega.{arith}
@@ -11,7 +11,6 @@ use Rattle.model.specs.Tree.{Bag}
 use Rattle.door.proofs.One.{decided}
 use Rattle.records.specs.declared.Command.{Command}
 use Rattle.records.specs.declared.Command.the-variants.{Insert, Remove, Push, Get, Replace, Len}
-use Rattle.records.specs.declared.Record.{Record}
 use Rattle.records.specs.declared.Record.the-variants.{Refusal}
 use Rattle.records.specs.Answers.{recordBytes}
 use Rattle.records.proofs.Laws.{Bodied, Fits, next-fits}

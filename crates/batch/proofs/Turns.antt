@@ -15,7 +15,7 @@ use Rattle.records.specs.Answers.{longestRecord}
 use Rattle.records.proofs.Laws.{Fits, next-end, next-fits}
 use Rattle.batch.specs.declared.Turn.{Turn}
 use Rattle.batch.specs.declared.Turn.the-variants.{Stop, Run}
-use Rattle.batch.specs.Steps.{turnOf, turnAt, Reply, Progress, Ended, advanced, batchFrom}
+use Rattle.batch.specs.Steps.{turnOf, turnAt, Reply, Progress, advanced, batchFrom}
 
 -- ---- which turn comes
 

@@ -16,7 +16,7 @@ use Rattle.records.specs.declared.Command.the-variants.{Insert, Remove, Push, G
 use Rattle.records.specs.declared.Record.{Record}
 use Rattle.records.specs.declared.Record.the-variants.{Done, Element, Length, Refusal, Got}
 use Rattle.batch.specs.declared.Ran.{Ran}
-use Rattle.batch.specs.Steps.{Reply, Progress, Ended, batchOf}
+use Rattle.batch.specs.Steps.{Reply, Ended, batchOf}
 
 -- the door's call that a command is
 abbrev pub perform : Command → Bag → Outcome

@@ -1,18 +1,17 @@
 -- A bag that a pool holds: it stands there for the tree functions; and what they leave is held again.
-use mathlib.Core.Path.{_≡_, refl, sym, ap, subst, _∙_}
+use mathlib.Core.Path.{_≡_, _∙_}
 use mathlib.Core.List.{List}
-use Prim.Native.Nat.{ℕ, zero, suc, _+_, _*_, _^_, _≤_, _<_}
+use Prim.Native.Nat.{ℕ, _*_, _≤_, _<_}
 use native.Mathlib.Omega.{arith}
-use lib.ListN.{length, getD, set, length-set}
+use lib.ListN.{length, set, length-set}
 use lib.Seq.{getD-set-same, getD-set-other}
-use Rattle.model.specs.Tree.{Tree, size, ids, Root, bare, rooted, Bag, listOf, rootIds}
+use Rattle.model.specs.Tree.{Root, bare, rooted, Bag, listOf, rootIds}
 use Rattle.model.specs.Fit.{FitRoot}
 use Rattle.model.proofs.Nodes.{flat-length}
 use Rattle.model.proofs.Bounds.{size-most}
 use Rattle.model.proofs.Bags.{Edited}
-use Rattle.pool.specs.Layout.{rootWord, chainWord, mostNodes, rootId}
+use Rattle.pool.specs.Layout.{rootWord, chainWord, rootId}
 use Rattle.pool.specs.Sound.{Lawful, Holds}
-use Rattle.pool.specs.Parts.{Parts}
 use Rattle.pool.proofs.Store.{block-head}
 use Rattle.pool.proofs.Whole.{unique, nodes-of, holds-parts, parts-holds}
 use Rattle.pool.proofs.Frame.{root-frame, chain-frame}

@@ -6,9 +6,8 @@ use Prim.Native.Nat.{ℕ, _≤_, _<_}
 use native.Mathlib.Omega.{arith}
 use native.Mathlib.Decide.{decLt}
 use lib.ListN.{length, getD, set}
-use Rattle.lists.specs.Lists.{count}
 use Rattle.model.specs.declared.Answer.{Answer}
-use Rattle.model.specs.Tree.{Tree, get, replace, ids, Root, bare, rooted, Bag, listOf, rootIds, met, bagGet, bagReplace, levelsOf}
+use Rattle.model.specs.Tree.{replace, Root, bare, rooted, Bag, listOf, rootIds, bagGet, bagReplace, levelsOf}
 use Rattle.model.specs.Calls.{refused, gives, lengthOf, Outcome, outcome, insertCall, replaceCall, removeCall}
 use Rattle.model.specs.Insert.{needed, bagInsert}
 use Rattle.model.specs.Remove.{bagRemove}
@@ -32,7 +31,7 @@ use Rattle.removal.specs.Ready.{BagHas, BagRemoves}
 use Rattle.calls.specs.declared.Done.{Done}
 use Rattle.calls.specs.Does.{Ready, Does}
 use Rattle.calls.proofs.Bags.{holds-stands, lawful-edited, became-holds}
-use Rattle.calls.proofs.Reading.{has, root-has}
+use Rattle.calls.proofs.Reading.{has}
 
 -- what a call is on a bag, and a pool that holds what it leaves
 pub does : {w′ : List ℕ} (call : Bag → Outcome) (b : Bag) (o : Outcome) → call b ≡ o → (r : Done) → r .answer ≡ o .answer

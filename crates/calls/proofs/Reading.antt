@@ -1,5 +1,5 @@
 -- What is read of the bag that a pool holds, from what is known of it.
-use mathlib.Core.Path.{_≡_, refl, sym, ap, subst, subst₂, _∙_}
+use mathlib.Core.Path.{_≡_, refl, sym, ap, subst, _∙_}
 use mathlib.Core.List.{List}
 use Prim.Native.Nat.{ℕ, _+_, _-_, _^_, _≤_, _<_}
 use native.Mathlib.Decide.{decLt}
@@ -8,13 +8,11 @@ use borrow.Author.Tests.{le-leb, lt-leb}
 use lib.ListN.{length, getD, take, drop}
 use lib.Seq.{ext-getD}
 use Rattle.lists.specs.Lists.{count}
-use Rattle.model.specs.declared.Answer.{Answer}
 use Rattle.model.specs.declared.Found.{Found}
 use Rattle.model.specs.declared.Stretch.{Stretch}
-use Rattle.model.specs.Tree.{Tree, get, Root, bare, rooted, Bag, listOf, rootIds, bagGet, levelsOf}
+use Rattle.model.specs.Tree.{get, Root, bare, rooted, Bag, listOf, rootIds, bagGet, levelsOf}
 use Rattle.model.specs.Fit.{FitRoot}
-use Rattle.model.specs.declared.Walked.{Walked}
-use Rattle.model.specs.Calls.{refused, gives, lengthOf, getCall, skipCall, equalCall}
+use Rattle.model.specs.Calls.{gives, lengthOf, equalCall}
 use Rattle.lists.proofs.Same.{same-self, same-other}
 use Rattle.model.proofs.Bags.{bag-get}
 use Rattle.model.proofs.Nodes.{flat-length}
@@ -23,7 +21,7 @@ use Rattle.pool.specs.Parts.{Inside, RootAt}
 use Rattle.pool.proofs.Store.{block-in}
 use Rattle.pool.proofs.Node.{at-length}
 use Rattle.tree.specs.declared.Known.{Known}
-use Rattle.tree.specs.Stands.{knownOf, BagStands}
+use Rattle.tree.specs.Stands.{BagStands}
 use Rattle.tree.specs.Lookup.{Has}
 use Rattle.calls.specs.Does.{Ready}
 use Rattle.calls.specs.Part.{nowhere, spanOf, rootSpan, partCall}

@@ -1,12 +1,12 @@
 -- From a pool that was admitted to the promise of a call.
-use mathlib.Core.Path.{_≡_, refl, sym, ap, _∙_}
+use mathlib.Core.Path.{_≡_, ap, _∙_}
 use mathlib.Core.List.{List}
-use Prim.Native.Nat.{ℕ, _≤_, _<_}
+use Prim.Native.Nat.{ℕ, _<_}
 use native.Mathlib.Omega.{arith}
 use lib.ListN.{length, getD}
-use Rattle.model.specs.Tree.{Bag, levelsOf}
-use Rattle.pool.specs.Layout.{rootWord, rootId}
-use Rattle.pool.specs.Sound.{Holds, Sound, Sized}
+use Rattle.model.specs.Tree.{Bag}
+use Rattle.pool.specs.Layout.{rootWord}
+use Rattle.pool.specs.Sound.{Holds}
 use Rattle.pool.proofs.Whole.{holds-parts}
 use Rattle.tree.specs.declared.Known.{Known}
 use Rattle.tree.specs.Stands.{knownOf}

@@ -5,7 +5,7 @@ use Prim.Native.Nat.{ℕ}
 use borrow.Author.Needs.{needs}
 use Rattle.model.specs.declared.Answer.{Answer}
 use Rattle.model.specs.Tree.{Bag}
-use Rattle.model.specs.Calls.{outcome, gives, lengthOf, lenCall}
+use Rattle.model.specs.Calls.{outcome, gives, lenCall}
 use Rattle.tree.specs.declared.Known.{Known}
 use Rattle.calls.specs.Does.{Ready, Does}
 use Rattle.batch.proofs.perform.Statement.{statement}

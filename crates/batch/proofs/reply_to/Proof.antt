@@ -1,5 +1,4 @@
 -- `reply_to` meets its contract: a refusal's number, or the record of the command.
-use mathlib.Core.Path.{_≡_}
 use borrow.Author.Needs.{needs}
 use borrow.Author.Tests.{eq-eqb, ne-eqb}
 use Rattle.batch.specs.Batch.{replyTo}

@@ -1,11 +1,7 @@
 -- `insert` meets its contract: what the tree function leaves with the new root stored, unless the index or the room refuses it.
-use mathlib.Core.Path.{_≡_}
-use Prim.Native.Nat.{_<_}
 use native.Mathlib.Omega.{arith}
 use borrow.Author.Needs.{needs}
 use borrow.Author.Tests.{not-true, not-false}
-use denote.Ref.{now}
-use Rattle.model.specs.Calls.{lengthOf}
 use Rattle.model.proofs.Calls.{insert-beyond}
 use Rattle.calls.proofs.Bags.{root-inside}
 use Rattle.calls.proofs.Editing.{does, insertReady, insert-long, insert-refused, insert-does}

@@ -1,5 +1,5 @@
 -- `push` meets its contract: an insertion behind the last element.
-use mathlib.Core.Path.{_≡_, sym, ap}
+use mathlib.Core.Path.{sym, ap}
 use Prim.Native.Nat.{ℕ}
 use borrow.Author.Needs.{needs}
 use Rattle.model.specs.Calls.{insertCall, pushCall}

@@ -1,7 +1,6 @@
 -- `remove` meets its contract: what the tree function leaves with the new root stored, unless the index is past the end.
 use native.Mathlib.Omega.{arith}
 use borrow.Author.Needs.{needs}
-use Rattle.model.specs.Calls.{lengthOf}
 use Rattle.model.proofs.Calls.{remove-beyond}
 use Rattle.calls.proofs.Bags.{root-inside}
 use Rattle.calls.proofs.Editing.{does, removeReady, remove-does}

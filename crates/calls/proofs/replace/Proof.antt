@@ -1,9 +1,6 @@
 -- `replace` meets its contract: what the tree function leaves, unless the index is past the end.
-use Prim.Native.Nat.{_<_}
 use native.Mathlib.Omega.{arith}
 use borrow.Author.Needs.{needs}
-use denote.Ref.{now}
-use Rattle.model.specs.Calls.{lengthOf}
 use Rattle.model.proofs.Calls.{replace-beyond}
 use Rattle.calls.proofs.Reading.{root-has}
 use Rattle.calls.proofs.Editing.{does, replace-does}

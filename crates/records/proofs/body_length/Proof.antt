@@ -1,11 +1,7 @@
 -- `body_length` meets its contract: each arm is the table's row, and the last has every kind that the table lacks.
-use mathlib.Core.Path.{_≡_, refl, sym}
 use mathlib.Core.Logic.{inl, inr, ⊎-elim}
-use Prim.Native.Nat.{ℕ}
-use native.Mathlib.Omega.{arith}
 use borrow.Author.Tests.{ne-eqb}
 use Rattle.records.specs.Commands.{bodyOf}
-use Rattle.records.specs.declared.Body.the-variants.{Unknown}
 use Rattle.records.proofs.body_length.Statement.{statement}
 use Rattle.records.proofs.body_length.Tie as tie
 

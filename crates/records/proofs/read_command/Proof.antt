@@ -1,6 +1,5 @@
 -- `read_command` meets its contract: each arm reads the numbers of the table's row, which lie in the input.
 use mathlib.Core.Path.{refl}
-use mathlib.Core.Logic.{inl, inr}
 use native.Mathlib.Omega.{arith}
 use borrow.Author.Needs.{needs}
 use borrow.Author.Tests.{ne-eqb}

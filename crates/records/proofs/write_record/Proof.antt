@@ -1,12 +1,5 @@
 -- `write_record` meets its contract: each arm writes the fields of its row.
-use mathlib.Core.Path.{_≡_, refl, ap, _∙_}
-use mathlib.Core.List.{List}
-use Prim.Native.Nat.{ℕ, _+_}
-use native.Mathlib.Omega.{arith}
 use borrow.Author.Needs.{needs}
-use lib.ListN.{length}
-use lib.Seq.{sets}
-use Rattle.records.specs.declared.Record.{Record}
 use Rattle.records.specs.Answers.{recordBytes}
 use Rattle.records.proofs.write_record.Statement.{statement}
 use Rattle.records.proofs.write_record.Tie as tie

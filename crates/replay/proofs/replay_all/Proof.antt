@@ -1,6 +1,5 @@
 -- `replay_all` is safe and ends: each block moves the place on, and never past the end.
 use Prim.Native.Nat.{_≤_, _-_}
-use native.Mathlib.Omega.{arith}
 use borrow.Author.Needs.{needs}
 use lib.ListN.{length}
 use Rattle.replay.proofs.replay_all.Statement.{statement}

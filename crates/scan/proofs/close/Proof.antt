@@ -1,5 +1,4 @@
 -- `close` meets its contract: two fields, and a number behind them.
-use mathlib.Core.Path.{_≡_, _∙_}
 use native.Mathlib.Omega.{arith}
 use borrow.Author.Needs.{needs}
 use Rattle.scan.proofs.Laws.{closed, fields-end}
