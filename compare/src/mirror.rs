@@ -57,7 +57,7 @@ impl Mirror {
         match *call {
             Call::Format => *self = Mirror::new(self.model.words().len() / sound::NODE_WORDS),
             Call::Check => {}
-            Call::Len => return Ok([self.len(), self.tree.len() as u64, self.model.len() as u64]).and_then(agree),
+            Call::Len => return agree([self.len(), self.tree.len() as u64, self.model.len() as u64]),
             Call::Insert(index, element) => return self.insert(index, element),
             Call::Push(element) => return self.insert(self.len(), element),
             Call::Get(index) => return self.get(index),

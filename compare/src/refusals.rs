@@ -90,6 +90,18 @@ fn try_call(pool: &[u64], verdict: u64, call: &Call) -> Result<(), String> {
     differs.map_or(Ok(()), |i| Err(format!("word {i} is {}, due is {}", words[i], due_words[i])))
 }
 
+/// Makes some calls on words that the driver's own check gives this number. Gives how many.
+fn try_words(pool: Vec<u64>, verdict: u64, random: &mut Random) -> Result<u64, Finding> {
+    let mut calls = vec![Call::Check];
+    calls.extend((0..3).map(|_| any_call(random, pool.len())));
+    for call in &calls {
+        if let Err(difference) = try_call(&pool, verdict, call) {
+            return Err(Finding { pool, call: call.clone(), difference });
+        }
+    }
+    Ok(calls.len() as u64)
+}
+
 /// Damages a sound pool, and makes some calls on what is left. Gives how many, and the number that is due of the pool.
 pub fn try_damage(base: &[u64], random: &mut Random) -> Result<(u64, u64), Finding> {
     let mut pool = base.to_vec();
@@ -98,16 +110,22 @@ pub fn try_damage(base: &[u64], random: &mut Random) -> Result<(u64, u64), Findi
         scramble(&mut pool, random);
     }
     let verdict = sound::verdict(&pool);
-    let mut calls = vec![Call::Check];
-    calls.extend((0..3).map(|_| any_call(random, pool.len())));
     if broken && verdict != 1 {
         let difference = "a clause is broken, and the driver's own check does not see it".to_string();
         return Err(Finding { pool, call: Call::Check, difference });
     }
-    for call in &calls {
-        if let Err(difference) = try_call(&pool, verdict, call) {
-            return Err(Finding { pool, call: call.clone(), difference });
-        }
+    Ok((try_words(pool, verdict, random)?, verdict))
+}
+
+/// Words of every length up to that of two nodes, and of lengths around the largest pool's and beyond: zeros, and an empty list.
+pub fn try_lengths(random: &mut Random) -> Result<u64, Finding> {
+    let around = |nodes: usize| bag::words(nodes) - 1..=bag::words(nodes) + 1;
+    let mut calls = 0;
+    for length in (0..=bag::words(2) + 1).chain(around(4096)).chain(around(4097)).chain(around(8192)) {
+        let mut pool = vec![0; length];
+        calls += try_words(pool.clone(), sound::verdict(&pool), random)?;
+        bag::format(&mut pool);
+        calls += try_words(pool.clone(), sound::verdict(&pool), random)?;
     }
-    Ok((calls.len() as u64, verdict))
+    Ok(calls)
 }

@@ -5,7 +5,7 @@ use std::process::exit;
 use std::time::Instant;
 
 use compare::random::Random;
-use compare::refusals::try_damage;
+use compare::refusals::{try_damage, try_lengths, Finding};
 use compare::shrink::{run, shrink};
 use compare::trial::Trial;
 use compare::workload::Workload;
@@ -81,13 +81,22 @@ fn damaged(base: &[u64], seed: u64, random: &mut Random, tally: &mut Tally) {
             tally.calls += calls;
             tally.verdicts[verdict as usize] += 1;
         }
-        Err(finding) => {
-            tally.differences += 1;
-            println!("DIFFERENCE: a damaged pool, seed {seed}, {:?}: {}", finding.call, finding.difference);
-            for (i, word) in finding.pool.iter().enumerate().filter(|(i, w)| base.get(*i) != Some(w)).take(200) {
-                println!("  word {i} was {:?} and is {word}", base.get(i));
-            }
-        }
+        Err(finding) => report_words("a damaged pool", seed, finding, base, tally),
+    }
+}
+
+fn lengths(seed: u64, tally: &mut Tally) {
+    match try_lengths(&mut Random::new(seed)) {
+        Ok(calls) => tally.calls += calls,
+        Err(finding) => report_words("a length", seed, finding, &[], tally),
+    }
+}
+
+fn report_words(what: &str, seed: u64, finding: Finding, base: &[u64], tally: &mut Tally) {
+    tally.differences += 1;
+    println!("DIFFERENCE: {what}, {} words, seed {seed}, {:?}: {}", finding.pool.len(), finding.call, finding.difference);
+    for (i, word) in finding.pool.iter().enumerate().filter(|(i, w)| base.get(*i) != Some(w)).take(200) {
+        println!("  word {i} was {:?} and is {word}", base.get(i));
     }
 }
 
@@ -108,6 +117,7 @@ fn compare(plan: Plan, seed: u64) -> Tally {
     let random = &mut Random::new(seed);
     while tally.calls < plan.calls || tally.damaged < plan.damaged {
         round += 1;
+        lengths(random.any(), &mut tally);
         for p in 0..=300 {
             sequence(p, random.any(), 600 + 15 * p as u64, 250, &mut tally);
         }
