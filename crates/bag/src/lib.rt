@@ -3,8 +3,8 @@ ghost use Rattle.model.specs.Calls.{refused, checkCall, lenCall, getCall, skipC
 ghost use Rattle.calls.specs.Part.{nowhere, partCall};
 ghost use Rattle.door.specs.Promise.{Edits, Tells, Compares, Formats};
 ghost use Rattle.batch.specs.Batch.{Batches};
-use batch::Ran;
 use calls::Span;
+use commands::Ran;
 use model::Answer;
 use model::Walked;
 

@@ -4,7 +4,7 @@ use mathlib.Core.List.{List}
 use Prim.Native.Nat.{ℕ}
 use Rattle.pool.proofs.Read.{one-pool}
 use Rattle.door.proofs.One.{decided}
-use Rattle.batch.specs.declared.Ran.{Ran}
+use Rattle.commands.specs.declared.Ran.{Ran}
 use Rattle.batch.specs.Batch.{Idle, Batches}
 
 idle-one : {n : ℕ} {w out : List ℕ} {r s : Ran} {w′ w″ out′ out″ : List ℕ} → Idle n w out r w′ out′ → Idle n w out s w″ out″

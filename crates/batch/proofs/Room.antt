@@ -14,12 +14,13 @@ use Rattle.records.specs.declared.Command.the-variants.{Insert, Remove, Push, G
 use Rattle.records.specs.declared.Record.the-variants.{Refusal}
 use Rattle.records.specs.Answers.{recordBytes}
 use Rattle.records.proofs.Laws.{Bodied, Fits, next-fits}
-use Rattle.batch.specs.declared.Ran.{Ran}
-use Rattle.batch.specs.declared.Turn.{Turn}
-use Rattle.batch.specs.declared.Turn.the-variants.{Stop, Run}
-use Rattle.batch.specs.Steps.{turnAt, Progress, Ended, start, advanced, batchFrom, batchOf}
-use Rattle.batch.specs.Batch.{perform, given, replyTo, onBag, Batches}
-use Rattle.batch.proofs.Turns.{Runnable, runnable, Open, stays-open, batch-stops, batch-goes}
+use Rattle.commands.specs.declared.Ran.{Ran}
+use Rattle.commands.specs.declared.Turn.{Turn}
+use Rattle.commands.specs.declared.Turn.the-variants.{Stop, Run}
+use Rattle.commands.specs.Steps.{turnAt, Progress, Ended, start, advanced, batchFrom, batchOf}
+use Rattle.commands.specs.OnBag.{perform, given, replyTo, onBag}
+use Rattle.batch.specs.Batch.{Batches}
+use Rattle.commands.proofs.Turns.{Runnable, runnable, Open, stays-open, batch-stops, batch-goes}
 
 given-small : (c : Command) (a : Answer) (n : ℕ) → 1 ≤ n → Bodied c (n - 1) → length (recordBytes (given c a)) ≤ 9 * n
 unfolding recordBytes

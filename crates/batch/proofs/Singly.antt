@@ -15,14 +15,15 @@ use Rattle.records.specs.declared.Command.{Command}
 use Rattle.records.specs.declared.Command.the-variants.{Insert, Remove, Push, Get, Replace, Len}
 use Rattle.records.specs.Answers.{recordBytes}
 use Rattle.records.proofs.Laws.{next-end}
-use Rattle.batch.specs.declared.Ran.{Ran}
-use Rattle.batch.specs.declared.Turn.{Turn}
-use Rattle.batch.specs.declared.Turn.the-variants.{Stop, Run}
-use Rattle.batch.specs.Steps.{turnAt, Progress, Ended, start, advanced, batchFrom}
-use Rattle.batch.specs.Batch.{perform, onBag, Batches}
+use Rattle.commands.specs.declared.Ran.{Ran}
+use Rattle.commands.specs.declared.Turn.{Turn}
+use Rattle.commands.specs.declared.Turn.the-variants.{Stop, Run}
+use Rattle.commands.specs.Steps.{turnAt, Progress, Ended, start, advanced, batchFrom}
+use Rattle.commands.specs.OnBag.{perform, onBag}
+use Rattle.batch.specs.Batch.{Batches}
 use Rattle.batch.specs.Singly.{Called, Singly, Stand, OneByOne}
 use Rattle.batch.specs.Singly as singly
-use Rattle.batch.proofs.Turns.{turn-next, Runnable, runnable, batch-stops, batch-goes}
+use Rattle.commands.proofs.Turns.{turn-next, Runnable, runnable, batch-stops, batch-goes}
 
 -- ---- one command
 

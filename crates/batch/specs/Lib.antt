@@ -1,3 +1,2 @@
-pub mod Steps
 pub mod Batch
 pub mod Singly

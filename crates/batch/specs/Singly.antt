@@ -12,10 +12,10 @@ use Rattle.records.specs.declared.Command.the-variants.{Insert, Remove, Push, G
 use Rattle.records.specs.declared.Next.the-variants.{Whole}
 use Rattle.records.specs.Commands.{nextAt}
 use Rattle.records.specs.Answers.{recordBytes}
-use Rattle.batch.specs.declared.Ran.{Ran}
-use Rattle.batch.specs.declared.Turn.the-variants.{Stop}
-use Rattle.batch.specs.Steps.{turnAt}
-use Rattle.batch.specs.Batch.{replyTo}
+use Rattle.commands.specs.declared.Ran.{Ran}
+use Rattle.commands.specs.declared.Turn.the-variants.{Stop}
+use Rattle.commands.specs.Steps.{turnAt}
+use Rattle.commands.specs.OnBag.{replyTo}
 
 -- the promise of the door's call that a command is
 abbrev pub Called : Command → List ℕ → Answer → List ℕ → Type 0

@@ -17,9 +17,10 @@ use Rattle.pool.specs.Sound.{Holds, fits}
 use Rattle.pool.proofs.Whole.{holds-empty}
 use Rattle.door.specs.Promise.{Formats}
 use Rattle.records.specs.Numbers.{bytesOf}
-use Rattle.batch.specs.declared.Ran.{Ran}
-use Rattle.batch.specs.Steps.{batchOf}
-use Rattle.batch.specs.Batch.{onBag, ranOf, Batches}
+use Rattle.commands.specs.declared.Ran.{Ran}
+use Rattle.commands.specs.Steps.{batchOf}
+use Rattle.commands.specs.OnBag.{onBag, ranOf}
+use Rattle.batch.specs.Batch.{Batches}
 use Rattle.batch.proofs.Room.{never-7}
 use Rattle.scan.specs.Scan.{mostInput, poolNodes, outputBytes, closing, ended, scanOf, Scans}
 

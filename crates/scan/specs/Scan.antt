@@ -8,8 +8,8 @@ use lib.ListN.{length}
 use Rattle.words.specs.Words.{run}
 use Rattle.model.specs.Tree.{Bag, empty}
 use Rattle.records.specs.Numbers.{bytesOf}
-use Rattle.batch.specs.Steps.{Ended, batchOf}
-use Rattle.batch.specs.Batch.{onBag}
+use Rattle.commands.specs.Steps.{Ended, batchOf}
+use Rattle.commands.specs.OnBag.{onBag}
 
 -- the most input that is run, and the nodes of the pool
 abbrev pub mostInput : ℕ

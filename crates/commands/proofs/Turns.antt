@@ -13,9 +13,9 @@ use Rattle.records.specs.declared.Next.the-variants.{End, UnknownKind, CutShort
 use Rattle.records.specs.Commands.{nextAt}
 use Rattle.records.specs.Answers.{longestRecord}
 use Rattle.records.proofs.Laws.{Fits, next-end, next-fits}
-use Rattle.batch.specs.declared.Turn.{Turn}
-use Rattle.batch.specs.declared.Turn.the-variants.{Stop, Run}
-use Rattle.batch.specs.Steps.{turnOf, turnAt, Reply, Progress, advanced, batchFrom}
+use Rattle.commands.specs.declared.Turn.{Turn}
+use Rattle.commands.specs.declared.Turn.the-variants.{Stop, Run}
+use Rattle.commands.specs.Steps.{turnOf, turnAt, Reply, Progress, advanced, batchFrom}
 
 -- ---- which turn comes
 

@@ -8,8 +8,8 @@ use Rattle.model.specs.Tree.{Bag}
 use Rattle.model.specs.Calls.{outcome, gives, lenCall}
 use Rattle.tree.specs.declared.Known.{Known}
 use Rattle.calls.specs.Does.{Ready, Does}
-use Rattle.batch.proofs.perform.Statement.{statement}
-use Rattle.batch.proofs.perform.Tie as tie
+use Rattle.commands.proofs.perform.Statement.{statement}
+use Rattle.commands.proofs.perform.Tie as tie
 
 -- a command that reads leaves what was there
 reading : {w : List ℕ} {k : Known} (s : Ready w k) (ask : Bag → Answer) {a : Answer} → a ≡ ask (s .bag)

@@ -1,9 +1,9 @@
 -- `reply_to` meets its contract: a refusal's number, or the record of the command.
 use borrow.Author.Needs.{needs}
 use borrow.Author.Tests.{eq-eqb, ne-eqb}
-use Rattle.batch.specs.Batch.{replyTo}
-use Rattle.batch.proofs.reply_to.Statement.{statement}
-use Rattle.batch.proofs.reply_to.Tie as tie
+use Rattle.commands.specs.OnBag.{replyTo}
+use Rattle.commands.proofs.reply_to.Statement.{statement}
+use Rattle.commands.proofs.reply_to.Tie as tie
 
 returns : tie.Need-returns
 unfolding replyTo

@@ -17,10 +17,10 @@ use Rattle.records.specs.declared.Command.{Command}
 use Rattle.records.specs.declared.Record.{Record}
 use Rattle.records.specs.Answers.{recordBytes}
 use Rattle.records.proofs.Laws.{record-length}
-use Rattle.batch.specs.declared.Turn.the-variants.{Stop, Run}
-use Rattle.batch.specs.Steps.{turnAt, batchFrom, batchOf}
-use Rattle.batch.specs.Batch.{perform, replyTo, onBag, Runs}
-use Rattle.batch.proofs.Turns.{Runnable, runnable, batch-stops, batch-goes}
+use Rattle.commands.specs.declared.Turn.the-variants.{Stop, Run}
+use Rattle.commands.specs.Steps.{turnAt, batchFrom, batchOf}
+use Rattle.commands.specs.OnBag.{perform, replyTo, onBag, Runs}
+use Rattle.commands.proofs.Turns.{Runnable, runnable, batch-stops, batch-goes}
 
 -- a batch from bag b that has come so far: the bag that the pool w holds, the answers in the output o, and the turns left
 pub record Going (b : Bag) (input out w o : List ℕ) (k : Known) (commands read written : ℕ) : Type 0 where

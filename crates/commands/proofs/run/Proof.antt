@@ -6,9 +6,9 @@ use borrow.Author.Needs.{needs}
 use denote.Ref.{now}
 use lib.ListN.{length}
 use Rattle.calls.specs.Does.{Ready}
-use Rattle.batch.proofs.Going.{Going, begins, now-ready, same-room, stops, can-run, goes}
-use Rattle.batch.proofs.run.Statement.{statement}
-use Rattle.batch.proofs.run.Tie as tie
+use Rattle.commands.proofs.Going.{Going, begins, now-ready, same-room, stops, can-run, goes}
+use Rattle.commands.proofs.run.Statement.{statement}
+use Rattle.commands.proofs.run.Tie as tie
 
 abbrev Inv-loop : tie.InvT-loop
 Inv-loop pool₀ input output₀ k₀ commands₀ read₀ written₀ pool output k commands read written =

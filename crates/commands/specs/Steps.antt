@@ -10,8 +10,8 @@ use Rattle.records.specs.declared.Next.the-variants.{End, UnknownKind, CutShort
 use Rattle.records.specs.declared.Record.{Record}
 use Rattle.records.specs.Commands.{nextAt}
 use Rattle.records.specs.Answers.{recordBytes, longestRecord}
-use Rattle.batch.specs.declared.Turn.{Turn}
-use Rattle.batch.specs.declared.Turn.the-variants.{Stop, Run}
+use Rattle.commands.specs.declared.Turn.{Turn}
+use Rattle.commands.specs.declared.Turn.the-variants.{Stop, Run}
 
 -- the stop that applies, tried in 01's order, or the command to run and its length
 abbrev pub turnOf : Next → ℕ → Turn

@@ -2,9 +2,9 @@
 use mathlib.Core.Path.{sym, _∙_}
 use native.Mathlib.Omega.{arith}
 use borrow.Author.Needs.{needs}
-use Rattle.batch.proofs.Turns.{turn-next, turn-full, turn-run}
-use Rattle.batch.proofs.turn_at.Statement.{statement}
-use Rattle.batch.proofs.turn_at.Tie as tie
+use Rattle.commands.proofs.Turns.{turn-next, turn-full, turn-run}
+use Rattle.commands.proofs.turn_at.Statement.{statement}
+use Rattle.commands.proofs.turn_at.Tie as tie
 
 returns : tie.Need-returns
 returns c =
