@@ -15,6 +15,7 @@ use Rattle.model.specs.Insert.{isFull, splitChild, Grown, insertNonFull, needed
 use Rattle.model.proofs.Nodes.{most}
 use Rattle.model.proofs.Find.{Step, into, step}
 use Rattle.model.proofs.Insert.{full, Inserted, insert-law}
+use Rattle.model.proofs.Bounds.{needed-below}
 use Rattle.pool.specs.Layout.{nodeWords, withBlock, nodeBlock, kidIds, rootBlock}
 use Rattle.pool.proofs.Blocks.{most-kids, length-nodeBlock, length-rootBlock}
 use Rattle.pool.proofs.Frame.{wrote, wrote-same}
@@ -26,8 +27,10 @@ use Rattle.tree.proofs.Standing.{nodeOf}
 use Rattle.tree.proofs.Getting.{Turned}
 use Rattle.tree.proofs.Edits.{node-untouched, root-reshaped, owns-kid, root-apart, kid-reshaped, reshaped-none, owns-after, reshaped-both, owns-above}
 use Rattle.insertion.specs.Nodes.{Takes, Counts}
-use Rattle.insertion.specs.Ready.{SplitReady, InsertReady}
-use Rattle.insertion.specs.Steps.{Grew, RoomReady, roomed}
+use Rattle.split.specs.Ready.{SplitReady}
+use Rattle.insertion.specs.declared.Entry.{Entry}
+use Rattle.insertion.specs.Ready.{InsertReady}
+use Rattle.insertion.specs.Steps.{Grew, RoomReady, roomed, MakesRoom, InsertsBelow}
 use Rattle.insertion.proofs.Rooms.{insert-id, insert-size, with-block, Roomed, roomed-not, roomed-full, room-law}
 
 -- ---- the way from a node, and room made there
@@ -60,8 +63,15 @@ module _ {w : List ℕ} {id index h : ℕ} (i : InsertReady w (suc h) id index) 
       unfolding isFull
       is-full-kid = sym (eb (nodeOf h (into h t index) (sym (T ready-above .id)) (below .at) (below .fit)))
 
-      pub no-room-made : b ≡ false → Grew w w (suc h) t f (roomed h t index f)
-      no-room-made e = rw (roomed-not h t index f (is-full-kid ∙ e)) (reshaped-none (i .owns))
+      pub no-room-made : b ≡ false → MakesRoom w w h t f index (record { id = r .id; sub = r .sub; taken = 0 })
+      no-room-made e =
+          let n = roomed-not h t index f (is-full-kid ∙ e) in
+          record {
+            grew = rw n (reshaped-none (i .owns));
+            id = rw n (T ready-above .id);
+            sub = rw n (T ready-above .sub);
+            taken = rw (is-full-kid ∙ e);
+          }
 
       module _ (e : b ≡ true) where
         pub some-free : 0 < length f
@@ -81,9 +91,10 @@ module _ {w : List ℕ} {id index h : ℕ} (i : InsertReady w (suc h) id index) 
           some = some-free;
         }
 
-        pub room-made : (w′ : List ℕ) → Reshaped w w′ (suc h) t f (splitChild h t (r .child) (getD f 0 0)) (drop 1 f)
+        pub split-grew : (w′ : List ℕ) → ((q : SplitReady w id (r .child))
+            → Reshaped w w′ (suc (q .height)) (q .tree) (q .free) (splitChild (q .height) (q .tree) (r .child) (getD (q .free) 0 0)) (drop 1 (q .free)))
             → Grew w w′ (suc h) t f (roomed h t index f)
-        room-made w′ R = rw (roomed-full h t index f (is-full-kid ∙ e), ← (T ready-above .child)) R
+        split-grew w′ S = rw (roomed-full h t index f (is-full-kid ∙ e), ← (T ready-above .child)) (S split-ready)
 
 -- ---- in a leaf
 
@@ -106,100 +117,129 @@ leaf-block t es l = ap (λ (n : ℕ). nodeBlock n es []) (sym l)
 
 leaf-inserted : {w w′ : List ℕ} {id index : ℕ} (i : InsertReady w 0 id index) (x : ℕ) → ((s : Takes w id index)
     → w′ ≡ withBlock w id (nodeBlock (s .node .size + 1) (insertAt (s .node .elems) index x) (s .node .kids)))
-    → Grew w w′ 0 (i .tree) (i .free) (insertNonFull 0 (i .tree) index x (i .free))
-unfolding insertNonFull
+    → InsertsBelow w w′ 0 (i .tree) (i .free) index x 0
+unfolding insertNonFull neededBelow
 leaf-inserted {w} {w′} {id} {index} i x e =
     let t : Tree 0 = i .tree in
     let es : List ℕ = insertAt (t .elems) index x in
     let s : Tree 0 = record { id = t .id; elems = es; kids = t .kids } in
     let l : length es ≡ length (t .elems) + 1 = length-insertAt (t .elems) index x (leaf-upto i) in
     let F : Fit 0 s = record { most = omega (arith, i .room) } in
-    root-reshaped 0 t es (i .owns) (wrote-same (i .here) refl
-    (wrote (e (leaf-takes i) ∙ ap (withBlock w id) (leaf-block t es l)) (leaf-takes i .node .stored .inside) (length-rootBlock 0 s F)))
+    record {
+      grew = root-reshaped 0 t es (i .owns) (wrote-same (i .here) refl
+          (wrote (e (leaf-takes i) ∙ ap (withBlock w id) (leaf-block t es l)) (leaf-takes i .node .stored .inside) (length-rootBlock 0 s F)));
+      taken = refl;
+    }
 
 -- ---- in a node with children, where there is room
 
 module _ {w w₁ : List ℕ} {id index h : ℕ} (i : InsertReady w (suc h) id index)
     (R : Grew w w₁ (suc h) (i .tree) (i .free) (roomed h (i .tree) index (i .free))) where
+  abbrev s₁ : Tree (suc h)
+  s₁ = roomed h (i .tree) index (i .free) .tree
+
+  abbrev g₁ : List ℕ
+  g₁ = roomed h (i .tree) index (i .free) .free
+
+  pub laws : Roomed h (i .tree) index (i .free) s₁ g₁
+  laws = room-law h (i .tree) index (i .owns .fit) (i .room) (i .upto) (i .free) (i .enough)
+
+  pub owns₁ : Owns w₁ (suc h) s₁ g₁
+  owns₁ = owns-after (i .owns) R (laws .same)
+
+  pub upto₁ : index ≤ size (suc h) s₁
+  upto₁ = omega (arith, i .upto, laws .same .sized)
+
+  abbrev pub room-above : Above w₁ id index
+  room-above = owns-above owns₁ (laws .id ∙ i .here) index upto₁
+
+  pub way₁ : Step h s₁ index
+  way₁ = step h s₁ (owns₁ .fit) index upto₁
+
+  pub place₁ : find h s₁ index .child < length (s₁ .kids)
+  place₁ = omega (arith, way₁ .child, owns₁ .fit .one-more)
+
+  pub room-made : (r : Turn) → Turned w₁ id index r → isFull h (into h (i .tree) index) ≡ true
+      → MakesRoom w w₁ h (i .tree) (i .free) index (record { id = r .id; sub = r .sub; taken = 1 })
+  room-made r T e = record { grew = R; id = T room-above .id; sub = T room-above .sub; taken = rw e }
+
+-- ---- and below it
+
+module _ {w w₁ : List ℕ} {id index h : ℕ} (i : InsertReady w (suc h) id index) (r : Entry)
+    (M : MakesRoom w w₁ h (i .tree) (i .free) index r) where
   abbrev s : Tree (suc h)
   s = roomed h (i .tree) index (i .free) .tree
 
   abbrev g : List ℕ
   g = roomed h (i .tree) index (i .free) .free
 
-  pub laws : Roomed h (i .tree) index (i .free) s g
-  laws = room-law h (i .tree) index (i .owns .fit) (i .room) (i .upto) (i .free) (i .enough)
-
-  pub owns₁ : Owns w₁ (suc h) s g
-  owns₁ = owns-after (i .owns) R (laws .same)
-
-  pub upto₁ : index ≤ size (suc h) s
-  upto₁ = omega (arith, i .upto, laws .same .sized)
-
-  abbrev room-above : Above w₁ id index
-  room-above = owns-above owns₁ (laws .id ∙ i .here) index upto₁
-
-  pub way₁ : Step h s index
-  way₁ = step h s (owns₁ .fit) index upto₁
-
-  pub place₁ : find h s index .child < length (s .kids)
-  place₁ = omega (arith, way₁ .child, owns₁ .fit .one-more)
-
   abbrev c : ℕ
   c = find h s index .child
 
-  module _ (r : Turn) (T : Turned w₁ id index r) where
-    abbrev next : InsertReady w₁ h (r .id) (r .sub)
-    next = record {
-      tree = into h s index;
-      free = g;
-      owns = owns-kid owns₁ c place₁;
-      here = sym (T room-above .id);
-      some = omega (arith, way₁ .below .least);
-      room = laws .room;
-      upto = rw (T room-above .sub) (way₁ .sub);
-      enough = rw (T room-above .sub) (laws .need);
+  abbrev L : Roomed h (i .tree) index (i .free) s g
+  L = laws i (M .grew)
+
+  abbrev O : Owns w₁ (suc h) s g
+  O = owns₁ i (M .grew)
+
+  abbrev l : c < length (s .kids)
+  l = place₁ i (M .grew)
+
+  abbrev next : InsertReady w₁ h (r .id) (r .sub)
+  next = record {
+    tree = into h s index;
+    free = g;
+    owns = owns-kid O c l;
+    here = sym (M .id);
+    some = omega (arith, way₁ i (M .grew) .below .least);
+    room = L .room;
+    upto = rw (M .sub) (way₁ i (M .grew) .sub);
+    enough = rw (M .sub) (L .need);
+  }
+
+  module _ (w₂ : List ℕ) (x n : ℕ) (C : (q : InsertReady w₁ h (r .id) (r .sub))
+      → InsertsBelow w₁ w₂ h (q .tree) (q .free) (r .sub) x n) where
+    abbrev y : Grown (Tree h)
+    y = insertNonFull h (into h s index) (find h s index .sub) x g
+
+    inner : InsertsBelow w₁ w₂ h (into h s index) g (find h s index .sub) x n
+    inner = subst (λ (j : ℕ). InsertsBelow w₁ w₂ h (into h s index) g j x n) (M .sub) (C next)
+
+    inserted : Inserted h (into h s index) (find h s index .sub) x g y
+    inserted = insert-law h (into h s index) (next .owns .fit) (L .room) (find h s index .sub) x g (way₁ i (M .grew) .sub) (L .need)
+
+    abbrev counts : Counts w₂ id
+    counts = record {
+      node = node-untouched (inner .grew .untouched) (root-apart O c l id (L .id ∙ i .here))
+          (nodeOf (suc h) s (L .id ∙ i .here) (O .at) (O .fit));
+      small = O .small;
     }
 
-    module _ (w₂ : List ℕ) (x : ℕ) (C : (q : InsertReady w₁ h (r .id) (r .sub))
-        → Grew w₁ w₂ h (q .tree) (q .free) (insertNonFull h (q .tree) (r .sub) x (q .free))) where
-      abbrev y : Grown (Tree h)
-      y = insertNonFull h (into h s index) (find h s index .sub) x g
+    took : r .taken + n ≡ neededBelow (suc h) (i .tree) index
+    took = omega (arith, M .taken, L .taken, inner .taken)
 
-      inner : Grew w₁ w₂ h (into h s index) g y
-      inner = subst (λ (j : ℕ). Grew w₁ w₂ h (into h s index) g (insertNonFull h (into h s index) j x g)) (T room-above .sub) (C next)
-
-      inserted : Inserted h (into h s index) (find h s index .sub) x g y
-      inserted = insert-law h (into h s index) (next .owns .fit) (laws .room) (find h s index .sub) x g (way₁ .sub) (laws .need)
-
-      abbrev counts : Counts w₂ id
-      counts = record {
-        node = node-untouched (inner .untouched) (root-apart owns₁ c place₁ id (laws .id ∙ i .here))
-            (nodeOf (suc h) s (laws .id ∙ i .here) (owns₁ .at) (owns₁ .fit));
-        small = owns₁ .small;
-      }
-
-      done : (w₃ : List ℕ) → ((q : Counts w₂ id)
-          → w₃ ≡ withBlock w₂ id (nodeBlock (q .node .size + 1) (q .node .elems) (q .node .kids)))
-          → Grew w w₃ (suc h) (i .tree) (i .free) (insertNonFull (suc h) (i .tree) index x (i .free))
-      done w₃ e =
-          let k : Tree h = y .tree in
-          let b = with-block h s c k place₁ (insert-size (next .owns .fit) (way₁ .sub) inserted)
-          (insert-id h (into h s index) (find h s index .sub) x g) in
-          let l : length (nodeBlock (size (suc h) s + 1) (s .elems) (kidIds (suc h) s)) ≡ nodeWords =
-          length-nodeBlock (size (suc h) s + 1) (s .elems) (kidIds (suc h) s) (owns₁ .fit .most) (most-kids (suc h) s (owns₁ .fit)) in
-          let W = wrote-same (laws .id ∙ i .here) b (wrote (e counts) (counts .node .stored .inside) l) in
-          rw (laws .insert x) (reshaped-both R (laws .same .nodes) (kid-reshaped owns₁ c place₁ (s .elems) inner (inserted .nodes) W))
+    done : (w₃ : List ℕ) → ((q : Counts w₂ id)
+        → w₃ ≡ withBlock w₂ id (nodeBlock (q .node .size + 1) (q .node .elems) (q .node .kids)))
+        → InsertsBelow w w₃ (suc h) (i .tree) (i .free) index x (r .taken + n)
+    done w₃ e =
+        let k : Tree h = y .tree in
+        let b = with-block h s c k l (insert-size (next .owns .fit) (way₁ i (M .grew) .sub) inserted)
+        (insert-id h (into h s index) (find h s index .sub) x g) in
+        let m : length (nodeBlock (size (suc h) s + 1) (s .elems) (kidIds (suc h) s)) ≡ nodeWords =
+        length-nodeBlock (size (suc h) s + 1) (s .elems) (kidIds (suc h) s) (O .fit .most) (most-kids (suc h) s (O .fit)) in
+        let W = wrote-same (L .id ∙ i .here) b (wrote (e counts) (counts .node .stored .inside) m) in
+        record {
+          grew = rw (L .insert x) (reshaped-both (M .grew) (L .same .nodes) (kid-reshaped O c l (s .elems) (inner .grew) (inserted .nodes) W));
+          taken = took;
+        }
 
 -- ---- the same by the levels as the code has them: the call is made at l
 
-abbrev pub InsertsBelow : List ℕ → List ℕ → ℕ → ℕ → ℕ → ℕ → Type 0
-InsertsBelow w w′ levels id index x =
-    (r : InsertReady w levels id index) → Grew w w′ levels (r .tree) (r .free) (insertNonFull levels (r .tree) index x (r .free))
+abbrev pub BelowDone : List ℕ → List ℕ → ℕ → ℕ → ℕ → ℕ → ℕ → Type 0
+BelowDone w w′ levels id index x n = (q : InsertReady w levels id index) → InsertsBelow w w′ levels (q .tree) (q .free) index x n
 
-abbrev MadeRoom : List ℕ → List ℕ → ℕ → ℕ → Type 0
-MadeRoom w w′ id index = (r : RoomReady w id index)
-    → Grew w w′ (suc (r .height)) (r .ready .tree) (r .ready .free) (roomed (r .height) (r .ready .tree) index (r .ready .free))
+abbrev RoomMade : List ℕ → List ℕ → ℕ → ℕ → Entry → Type 0
+RoomMade w w′ id index r = (q : RoomReady w id index) → MakesRoom w w′ (q .height) (q .ready .tree) (q .ready .free) index r
 
 module _ {w : List ℕ} {id index : ℕ} where
   pub as-leaf : (levels : ℕ) → levels ≡ 0 → InsertReady w levels id index → Takes w id index
@@ -208,7 +248,7 @@ module _ {w : List ℕ} {id index : ℕ} where
 
   pub leaf-done : (levels : ℕ) → levels ≡ 0 → (w′ : List ℕ) (x : ℕ) → ((s : Takes w id index)
       → w′ ≡ withBlock w id (nodeBlock (s .node .size + 1) (insertAt (s .node .elems) index x) (s .node .kids)))
-      → InsertsBelow w w′ levels id index x
+      → BelowDone w w′ levels id index x 0
   leaf-done zero e w′ x d i = leaf-inserted i x d
   leaf-done (suc h) e w′ x d i = absurd (omega arith)
 
@@ -216,33 +256,31 @@ module _ {w : List ℕ} {id index : ℕ} where
   as-room zero n i = absurd (n refl)
   as-room (suc h) n i = record { height = h; ready = i }
 
-  module _ (w₁ : List ℕ) (M : MadeRoom w w₁ id index) where
-    abbrev made : {h : ℕ} (i : InsertReady w (suc h) id index)
-        → Grew w w₁ (suc h) (i .tree) (i .free) (roomed h (i .tree) index (i .free))
+  module _ (w₁ : List ℕ) (r : Entry) (M : RoomMade w w₁ id index r) where
+    abbrev made : {h : ℕ} (i : InsertReady w (suc h) id index) → MakesRoom w w₁ h (i .tree) (i .free) index r
     made {h} i = M (record { height = h; ready = i })
 
-    pub as-above : (levels : ℕ) → levels ≢ 0 → InsertReady w levels id index → Above w₁ id index
-    as-above zero n i = absurd (n refl)
-    as-above (suc h) n i = room-above i (made i)
+    pub as-next : (levels l : ℕ) → levels ≡ suc l → InsertReady w levels id index → InsertReady w₁ l (r .id) (r .sub)
+    as-next zero l e i = absurd (omega arith)
+    as-next (suc h) l e i =
+        let q : h ≡ l = omega arith in
+        subst (λ (n : ℕ). InsertReady w₁ n (r .id) (r .sub)) q (next i r (made i))
 
-    module _ (r : Turn) (T : Turned w₁ id index r) where
-      pub as-next : (levels l : ℕ) → levels ≡ suc l → InsertReady w levels id index → InsertReady w₁ l (r .id) (r .sub)
-      as-next zero l e i = absurd (omega arith)
-      as-next (suc h) l e i =
-          let q : h ≡ l = omega arith in
-          subst (λ (n : ℕ). InsertReady w₁ n (r .id) (r .sub)) q (next i (made i) r T)
+    module _ (w₂ : List ℕ) (x n : ℕ) where
+      abbrev at-height : {h l : ℕ} → suc h ≡ suc l → BelowDone w₁ w₂ l (r .id) (r .sub) x n → BelowDone w₁ w₂ h (r .id) (r .sub) x n
+      at-height {h} {l} e C = let q : l ≡ h = omega arith in subst (λ (m : ℕ). BelowDone w₁ w₂ m (r .id) (r .sub) x n) q C
 
-      module _ (w₂ : List ℕ) (x : ℕ) where
-        pub as-counts : (levels l : ℕ) → levels ≡ suc l → InsertsBelow w₁ w₂ l (r .id) (r .sub) x → InsertReady w levels id index
-            → Counts w₂ id
-        as-counts zero l e C i = absurd (omega arith)
-        as-counts (suc h) l e C i =
-            let q : l ≡ h = omega arith in
-            counts i (made i) r T w₂ x (subst (λ (n : ℕ). InsertsBelow w₁ w₂ n (r .id) (r .sub) x) q C)
+      pub as-counts : (levels l : ℕ) → levels ≡ suc l → BelowDone w₁ w₂ l (r .id) (r .sub) x n → InsertReady w levels id index → Counts w₂ id
+      as-counts zero l e C i = absurd (omega arith)
+      as-counts (suc h) l e C i = counts i r (made i) w₂ x n (at-height e C)
 
-        pub all-done : (levels l : ℕ) → levels ≡ suc l → InsertsBelow w₁ w₂ l (r .id) (r .sub) x → (w₃ : List ℕ) → ((s : Counts w₂ id)
-            → w₃ ≡ withBlock w₂ id (nodeBlock (s .node .size + 1) (s .node .elems) (s .node .kids))) → InsertsBelow w w₃ levels id index x
-        all-done zero l e C w₃ d i = absurd (omega arith)
-        all-done (suc h) l e C w₃ d i =
-            let q : l ≡ h = omega arith in
-            done i (made i) r T w₂ x (subst (λ (n : ℕ). InsertsBelow w₁ w₂ n (r .id) (r .sub) x) q C) w₃ d
+      pub as-few : (levels l : ℕ) → levels ≡ suc l → BelowDone w₁ w₂ l (r .id) (r .sub) x n → InsertReady w levels id index
+          → r .taken + n ≤ levels
+      as-few zero l e C i = absurd (omega arith)
+      as-few (suc h) l e C i = omega (arith, took i r (made i) w₂ x n (at-height e C), needed-below (suc h) (i .tree) index)
+
+      pub all-done : (levels l : ℕ) → levels ≡ suc l → BelowDone w₁ w₂ l (r .id) (r .sub) x n → (w₃ : List ℕ) → ((s : Counts w₂ id)
+          → w₃ ≡ withBlock w₂ id (nodeBlock (s .node .size + 1) (s .node .elems) (s .node .kids)))
+          → BelowDone w w₃ levels id index x (r .taken + n)
+      all-done zero l e C w₃ d i = absurd (omega arith)
+      all-done (suc h) l e C w₃ d i = done i r (made i) w₂ x n (at-height e C) w₃ d

@@ -1,7 +1,5 @@
 -- The laws of insertion.
 pub mod Nodes
-pub mod Halves
-pub mod Splitting
 pub mod Rooms
 pub mod Inserting
 pub mod Needing

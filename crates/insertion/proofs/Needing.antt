@@ -3,29 +3,20 @@ use mathlib.Core.Path.{_≡_, refl, sym, ap, subst, _∙_}
 use mathlib.Core.Bool.{Bool, true, false}
 use mathlib.Core.List.{List}
 use mathlib.Core.Logic.{_≢_}
-use Prim.Native.Nat.{ℕ, zero, suc, _+_, _^_, _≤_, _<_}
+use Prim.Native.Nat.{ℕ, zero, suc, _+_, _≤_, _<_}
 use native.Mathlib.Omega.{arith}
 use lib.Dec.{leb}
 use lib.ListN.{length}
-use Rattle.model.specs.Tree.{Tree, size, find, rooted, listOf}
-use Rattle.model.specs.Fit.{FitTree}
-use Rattle.model.specs.Insert.{isFull, neededBelow, needed}
-use Rattle.model.proofs.Nodes.{flat-length}
+use Rattle.model.specs.Tree.{Tree, find}
+use Rattle.model.specs.Insert.{isFull, neededBelow}
 use Rattle.model.proofs.Find.{Step, into, step}
-use Rattle.model.proofs.Bounds.{room}
+use Rattle.model.proofs.Bounds.{needed-below}
 use Rattle.tree.specs.declared.Turn.{Turn}
 use Rattle.tree.specs.Node.{Node}
 use Rattle.tree.specs.Lookup.{Above}
 use Rattle.tree.proofs.Standing.{nodeOf}
 use Rattle.tree.proofs.Getting.{Turned, stands-above, stands-kid}
 use Rattle.insertion.specs.Steps.{Upto}
-
--- no more than there are elements
-pub few-below : (h : ℕ) (t : Tree h) → FitTree h t → size h t < 2 ^ 32 → (i : ℕ) → i ≤ size h t → neededBelow h t i < 2 ^ 32
-unfolding needed listOf
-few-below h t F s i l =
-    let n = flat-length h t (F .fit) in
-    omega (arith, room (rooted h t) F i (omega arith))
 
 -- what `is_full` has answered for a node
 abbrev pub Told : List ℕ → ℕ → Bool → Type 0
@@ -60,10 +51,8 @@ module _ {w : List ℕ} {id index h : ℕ} (s : Upto w (suc h) id index) where
       below-needs : n ≡ neededBelow h (into h t index) (find h t index .sub)
       below-needs = N upto-below ∙ ap (neededBelow h (into h t index)) (T upto-above .sub)
 
-      below-few : n < 2 ^ 32
-      below-few =
-          let u = upto-below .stands in
-          rw (N upto-below) (few-below h (u .tree) (u .fit) (u .small) (r .sub) (upto-below .upto))
+      below-few : n ≤ h
+      below-few = rw (N upto-below) (needed-below h (upto-below .stands .tree) (r .sub))
 
       module _ (b : Bool) (B : Told w (r .id) b) where
         full-kid : isFull h (into h t index) ≡ b
@@ -105,11 +94,11 @@ module _ {w : List ℕ} {id index : ℕ} where
     as-node (suc h) n s = below-node s r T
 
     module _ (n : ℕ) where
-      pub as-few : (levels l : ℕ) → levels ≡ suc l → Needs w l (r .id) (r .sub) n → Upto w levels id index → n < 2 ^ 32
+      pub as-few : (levels l : ℕ) → levels ≡ suc l → Needs w l (r .id) (r .sub) n → Upto w levels id index → n < levels
       as-few zero l e N s = absurd (omega arith)
       as-few (suc h) l e N s =
           let q : l ≡ h = omega arith in
-          below-few s r T n (subst (λ (m : ℕ). Needs w m (r .id) (r .sub) n) q N)
+          omega (arith, below-few s r T n (subst (λ (m : ℕ). Needs w m (r .id) (r .sub) n) q N))
 
       module _ (b : Bool) (B : Told w (r .id) b) where
         pub one-more : (levels l : ℕ) → levels ≡ suc l → Needs w l (r .id) (r .sub) n → b ≡ true → Needs w levels id index (1 + n)

@@ -1,6 +1,6 @@
 -- The steps of an insertion, in the model: the node in which there is room, and what is inserted through it.
 use mathlib.Core.Path.{_≡_, refl, ap}
-use mathlib.Core.Bool.{Bool, true, false}
+use mathlib.Core.Bool.{Bool, true, false, cond}
 use mathlib.Core.List.{List, [], _∷_}
 use Prim.Native.Nat.{ℕ, zero, suc, _+_, _≤_, _<_}
 use native.Mathlib.Omega.{arith}
@@ -56,9 +56,9 @@ module _ (h : ℕ) (t : Tree (suc h)) (c : ℕ) (k : Tree h) (l : c < length (t 
 pub record Roomed (h : ℕ) (t : Tree (suc h)) (i : ℕ) (f : List ℕ) (s : Tree (suc h)) (g : List ℕ) : Type 0 where
   pub same : Rearranged (suc h) t f s g
   pub id : s .id ≡ t .id
-  pub least : length (t .elems) ≤ length (s .elems)
   pub room : length (into h s i .elems) < 31
   pub need : neededBelow h (into h s i) (find h s i .sub) ≤ length g
+  pub taken : neededBelow (suc h) t i ≡ cond (isFull h (into h t i)) 1 0 + neededBelow h (into h s i) (find h s i .sub)
   pub insert : (x : ℕ) → insertNonFull (suc h) t i x f ≡ (let r = insertNonFull h (into h s i) (find h s i .sub) x g in
       record { tree = withKid h s (find h s i .child) (r .tree); free = r .free })
 
@@ -82,9 +82,9 @@ module _ (h : ℕ) (t : Tree (suc h)) (i : ℕ) where
       go false e f n = rw (roomed-not f e) (record {
         same = record { list = refl; sized = refl; fit = F; nodes = λ k. refl };
         id = refl;
-        least = omega arith;
         room = not-full h (into h t i) e;
         need = omega (arith, rw e at n);
+        taken = refl;
         insert = λ x. through h t i x f e;
       })
       go true e [] n = absurd (omega (arith, rw e at n))
@@ -96,8 +96,8 @@ module _ (h : ℕ) (t : Tree (suc h)) (i : ℕ) where
           rw (roomed-full (a ∷ f) e) (record {
             same = S .same;
             id = refl;
-            least = omega (arith, S .elems);
             room = S .goes .room;
             need = omega (arith, rw e at n, rw q at (S .goes .need));
+            taken = omega (arith, rw q at (S .goes .need));
             insert = λ x. after-split h t i x a f e;
           })

@@ -1,20 +1,21 @@
 -- Insertion into the whole list: refused, into an empty list, under a root with room, and under a full root.
 use mathlib.Core.Path.{_≡_, refl, sym, ap, subst, _∙_}
-use mathlib.Core.Bool.{Bool, true, false}
+use mathlib.Core.Bool.{Bool, true, false, cond}
 use mathlib.Core.List.{List, [], _∷_, _++_}
 use mathlib.Core.Logic.{_≢_}
-use Prim.Native.Nat.{ℕ, suc, _+_, _-_, _^_, _≤_, _<_}
+use Prim.Native.Nat.{ℕ, suc, _+_, _-_, _≤_, _<_}
 use native.Mathlib.Numerals.{add-one}
 use native.Mathlib.Omega.{arith}
+use borrow.Author.Tests.{ltb-true, ltb-false}
+use lib.Dec.{ltb}
 use lib.ListN.{length, getD, drop, length-drop}
 use Rattle.lists.specs.Lists.{count, insertAt}
 use Rattle.lists.proofs.Counts.{count-append, count-first, one-same}
-use Rattle.model.specs.Tree.{Tree, size, ids, Root, rooted, Bag, rootIds, levelsOf}
+use Rattle.model.specs.Tree.{Tree, size, ids, Root, Bag, rootIds, levelsOf}
 use Rattle.model.specs.Insert.{isFull, Grown, insertNonFull, neededBelow, needed, aboveRoot, grownBag, bagInsert}
 use Rattle.model.proofs.Nodes.{node, most}
 use Rattle.model.proofs.Insert.{full, not-full}
 use Rattle.model.proofs.Bags.{bag-insert, Lifted, lift-law, bag-bare, bag-room, bag-full}
-use Rattle.model.proofs.Bounds.{levels-few}
 use Rattle.pool.specs.Layout.{withBlock, nodeBlock, kidIds, rootBlock, rootId}
 use Rattle.pool.specs.Parts.{Stored, At, ChainAt}
 use Rattle.pool.specs.Chain.{Untouched, Free, Took}
@@ -23,11 +24,12 @@ use Rattle.pool.proofs.Frame.{chain-untouched, untouched-more, untouched-both, 
 use Rattle.tree.specs.declared.Known.{Known}
 use Rattle.tree.specs.Stands.{Became}
 use Rattle.tree.proofs.Rooting.{Rooted, is-bare}
+use Rattle.split.specs.Ready.{RaiseReady, Raised}
 use Rattle.insertion.specs.Nodes.{Takes}
 use Rattle.insertion.specs.Ready.{InsertReady, BagReady, Inserts}
-use Rattle.insertion.specs.Steps.{RaiseReady, Raised}
+use Rattle.insertion.specs.Steps.{InsertsBelow}
 use Rattle.insertion.proofs.Needing.{Told}
-use Rattle.insertion.proofs.Inserting.{InsertsBelow}
+use Rattle.insertion.proofs.Inserting.{BelowDone}
 use Rattle.insertion.proofs.Rooms.{insert-id}
 use Rattle.insertion.proofs.Rooting.{free-count, root-of, index-upto, root-node, needs-one}
 
@@ -50,32 +52,37 @@ leaf-block k x = refl
 
 -- ---- the test for room
 
-module _ {w : List ℕ} {known : Known} {index : ℕ} (x n : ℕ) (N : (q : BagReady w known index) → n ≡ needed (q .bag .root) index)
-    (b : BagReady w known index) where
-  pub refuses : known .free < n → Inserts w w (b .bag) index x known (record { done = false; known = known })
-  refuses l = record { accepted = λ m. absurd (omega (arith, N b, free-count b)); refused = λ m. (refl, refl, refl) }
+module _ {w : List ℕ} {known : Known} {index : ℕ} (x : ℕ) (a : Bool)
+    (A : (q : BagReady w known index) → a ≡ ltb (known .free) (needed (q .bag .root) index)) (b : BagReady w known index) where
+  pub refuses : a ≡ true → Inserts w w (b .bag) index x known (record { done = false; known = known })
+  refuses e =
+      let l = ltb-true (known .free) (needed (b .bag .root) index) (sym (A b) ∙ e) in
+      record { accepted = λ m. absurd (omega (arith, free-count b)); refused = λ m. (refl, refl, refl) }
 
-  module _ (l : n ≤ known .free) where
-    enough : needed (b .bag .root) index ≤ length (b .bag .free)
-    enough = omega (arith, N b, free-count b)
+  module _ (e : a ≡ false) where
+    pub enough : needed (b .bag .root) index ≤ length (b .bag .free)
+    enough = omega (arith, ltb-false (known .free) (needed (b .bag .root) index) (sym (A b) ∙ e), free-count b)
 
     accepts : {w′ : List ℕ} {k : Known} → Became w w′ (b .bag) (bagInsert (b .bag) index x) k
         → Inserts w w′ (b .bag) index x known (record { done = true; known = k })
     accepts B = record { accepted = λ m. (refl, B); refused = λ m. absurd (omega (arith, enough)) }
 
-    left : known .free - n ≡ length (bagInsert (b .bag) index x .free)
-    left =
+    left : (m : ℕ) → m + needed (b .bag .root) index ≡ known .free → m ≡ length (bagInsert (b .bag) index x .free)
+    left m s =
         let I = bag-insert (b .bag) index x (b .stands .fit) (b .upto) enough in
-        omega (arith, N b, free-count b, ap length (I .rest), length-drop (needed (b .bag .root) index) (b .bag .free))
+        omega (arith, free-count b, ap length (I .rest), length-drop (needed (b .bag .root) index) (b .bag .free))
 
     -- ---- an empty list
 
-    module _ (e : known .root ≡ 0) where
+    module _ (z : known .root ≡ 0) where
       abbrev f : List ℕ
       f = b .bag .free
 
       some : 0 < length f
-      some = omega (arith, enough, needs-one e b)
+      some = omega (arith, enough, needs-one z b)
+
+      pub one-free : 0 < known .free
+      one-free = omega (arith, some, free-count b)
 
       pub bare-free : Free w f
       bare-free = record { chain = b .stands .chain; once = λ k. omega (arith, b .stands .once k); some = some }
@@ -99,7 +106,7 @@ module _ {w : List ℕ} {known : Known} {index : ℕ} (x n : ℕ) (N : (q : BagR
         pub bare-inserted : (w₂ : List ℕ) → ((s : Takes w₁ root 0)
             → w₂ ≡ withBlock w₁ root (nodeBlock (s .node .size + 1) (insertAt (s .node .elems) 0 x) (s .node .kids)))
             → Inserts w w₂ (b .bag) index x known
-            (record { done = true; known = record { root = root; levels = 0; free = known .free - n } })
+            (record { done = true; known = record { root = root; levels = 0; free = known .free - 1 } })
         unfolding insertAt rootIds
         bare-inserted w₂ e₂ =
             let W : Wrote w₁ w₂ root (nodeBlock 1 (x ∷ []) []) =
@@ -108,8 +115,9 @@ module _ {w : List ℕ} {known : Known} {index : ℕ} (x n : ℕ) (N : (q : BagR
             (λ k. omega (arith, count-first k f some, one-same k (T .first))) in
             accepts
             (grown 0 (record { tree = node (getD f 0 0) (x ∷ []) []; free = drop 1 f })
-            (record { root = root; levels = 0; free = known .free - n })
-            (bag-bare (b .bag) index x (is-bare (b .stands) (b .is) e)) (T .first) refl left
+            (record { root = root; levels = 0; free = known .free - 1 })
+            (bag-bare (b .bag) index x (is-bare (b .stands) (b .is) z)) (T .first) refl
+            (left (known .free - 1) (omega (arith, needs-one z b, one-free)))
             (record { here = stored-same (sym (T .first)) (leaf-block (getD f 0 0) x) (W .stored); each = tt })
             (chain-untouched (W .untouched) (λ k m. omega (arith, own k, b .stands .once k)) (W .chain) (T .chain))
             (untouched-more (untouched-both (T .untouched) (W .untouched)) (λ k z.
@@ -117,7 +125,7 @@ module _ {w : List ℕ} {known : Known} {index : ℕ} (x n : ℕ) (N : (q : BagR
 
     -- ---- a list with a root
 
-    module _ (ne : known .root ≢ 0) (a : Bool) (A : Told w (known .root) a) where
+    module _ (ne : known .root ≢ 0) (d : Bool) (D : Told w (known .root) d) where
       abbrev R : Rooted w known (b .bag)
       R = root-of b ne
 
@@ -130,12 +138,13 @@ module _ {w : List ℕ} {known : Known} {index : ℕ} (x n : ℕ) (N : (q : BagR
       abbrev g : List ℕ
       g = b .bag .free
 
-      pub is-full-root : isFull h t ≡ a
+      pub is-full-root : isFull h t ≡ d
       unfolding isFull
-      is-full-root = sym (A (root-node b ne))
+      is-full-root = sym (D (root-node b ne))
 
-      root-enough : needed (rooted h t) index ≤ length g
-      root-enough = subst (λ (r : Root). needed r index ≤ length g) (R .is) enough
+      root-needs : needed (b .bag .root) index ≡ cond d 2 0 + neededBelow h t index
+      unfolding needed
+      root-needs = ap (λ (r : Root). needed r index) (R .is) ∙ rw is-full-root refl
 
       -- the caller's nodes
       all : {w′ : List ℕ} → Untouched w w′ (ids h t ++ g) → Untouched w w′ (rootIds (b .bag .root) ++ g)
@@ -143,10 +152,9 @@ module _ {w : List ℕ} {known : Known} {index : ℕ} (x n : ℕ) (N : (q : BagR
       all {w′} U = subst (λ (r : Root). Untouched w w′ (rootIds r ++ g)) (sym (R .is)) U
 
       -- that has room
-      module _ (q : a ≡ false) where
-        pub below-enough : neededBelow h t index ≤ length g
-        unfolding needed
-        below-enough = omega (arith, root-enough)
+      module _ (q : d ≡ false) where
+        pub needs-below : needed (b .bag .root) index ≡ neededBelow h t index
+        needs-below = omega (arith, rw q at root-needs)
 
         abbrev pub room-ready : InsertReady w (known .levels) (known .root) index
         room-ready = record {
@@ -157,30 +165,33 @@ module _ {w : List ℕ} {known : Known} {index : ℕ} (x n : ℕ) (N : (q : BagR
           some = R .some;
           room = not-full h t (is-full-root ∙ q);
           upto = index-upto b ne;
-          enough = below-enough;
+          enough = omega (arith, enough, needs-below);
         }
 
-        pub room-inserted : (w′ : List ℕ) → InsertsBelow w w′ (known .levels) (known .root) index x
-            → Inserts w w′ (b .bag) index x known
-            (record { done = true; known = record { root = known .root; levels = known .levels; free = known .free - n } })
-        room-inserted w′ C =
-            let Q = C room-ready in
-            accepts
-            (grown h (insertNonFull h t index x g) (record { root = known .root; levels = known .levels; free = known .free - n })
-            (bag-room (b .bag) index x h t (R .is) (is-full-root ∙ q)) (sym (insert-id h t index x g ∙ R .here)) refl left
-            (Q .at) (Q .chain) (all (Q .untouched)))
+        module _ (w′ : List ℕ) (n : ℕ) (C : BelowDone w w′ (known .levels) (known .root) index x n) where
+          pub room-left : n ≤ known .free
+          room-left = omega (arith, C room-ready .taken, enough, needs-below, free-count b)
+
+          pub room-inserted : Inserts w w′ (b .bag) index x known
+              (record { done = true; known = record { root = known .root; levels = known .levels; free = known .free - n } })
+          room-inserted =
+              let Q = C room-ready .grew in
+              accepts
+              (grown h (insertNonFull h t index x g) (record { root = known .root; levels = known .levels; free = known .free - n })
+              (bag-room (b .bag) index x h t (R .is) (is-full-root ∙ q)) (sym (insert-id h t index x g ∙ R .here)) refl
+              (left (known .free - n) (omega (arith, room-left, C room-ready .taken, needs-below)))
+              (Q .at) (Q .chain) (all (Q .untouched)))
 
       -- that is full
-      module _ (q : a ≡ true) where
-        pub two-enough : 2 + neededBelow h t index ≤ length g
-        unfolding needed
-        two-enough = rw (is-full-root ∙ q) at root-enough
+      module _ (q : d ≡ true) where
+        pub needs-two : needed (b .bag .root) index ≡ 2 + neededBelow h t index
+        needs-two = rw q at root-needs
+
+        pub two-free : 2 ≤ known .free
+        two-free = omega (arith, enough, needs-two, free-count b)
 
         pub root-full : length (t .elems) ≡ 31
         root-full = omega (arith, full h t (is-full-root ∙ q), most h t (R .owns .fit))
-
-        pub levels-fit : known .levels + 1 < 2 ^ 64
-        levels-fit = omega (arith, levels-few h t (record { some = R .some; fit = R .owns .fit }), R .owns .small)
 
         abbrev pub raise-ready : RaiseReady w (known .root)
         raise-ready = record {
@@ -190,7 +201,7 @@ module _ {w : List ℕ} {known : Known} {index : ℕ} (x n : ℕ) (N : (q : BagR
           owns = R .owns;
           here = R .here;
           full = root-full;
-          two = omega (arith, two-enough);
+          two = omega (arith, enough, needs-two);
         }
 
         module _ (root : ℕ) (w₁ : List ℕ) (E : (s : RaiseReady w (known .root)) → Raised w w₁ (s .height) (s .tree) (s .free) root) where
@@ -201,7 +212,7 @@ module _ {w : List ℕ} {known : Known} {index : ℕ} (x n : ℕ) (N : (q : BagR
           raised = E raise-ready
 
           lifted : Lifted h t index g u
-          lifted = lift-law h t (R .owns .fit) root-full index (index-upto b ne) g (omega (arith, two-enough))
+          lifted = lift-law h t (R .owns .fit) root-full index (index-upto b ne) g (omega (arith, enough, needs-two))
 
           abbrev raised-ready : InsertReady w₁ (suc h) root index
           raised-ready = record {
@@ -218,29 +229,35 @@ module _ {w : List ℕ} {known : Known} {index : ℕ} (x n : ℕ) (N : (q : BagR
             some = omega (arith, lifted .elems);
             room = omega (arith, lifted .elems);
             upto = omega (arith, index-upto b ne, lifted .sized);
-            enough = omega (arith, two-enough, lifted .need, length-drop 2 g);
+            enough = omega (arith, enough, needs-two, lifted .need, length-drop 2 g);
           }
 
           pub full-ready : InsertReady w₁ (known .levels + 1) root index
           full-ready = rw (add-one (known .levels)) raised-ready
 
-          pub full-inserted : (w′ : List ℕ) → InsertsBelow w₁ w′ (known .levels + 1) root index x
-              → Inserts w w′ (b .bag) index x known
-              (record { done = true; known = record { root = root; levels = known .levels + 1; free = known .free - n } })
-          full-inserted w′ C =
-              let D : InsertsBelow w₁ w′ (suc h) root index x = rw (add-one (known .levels)) at C in
-              let Q = D raised-ready in
-              accepts
-              (grown (suc h) (insertNonFull (suc h) u index x (drop 2 g))
-              (record { root = root; levels = known .levels + 1; free = known .free - n })
-              (bag-full (b .bag) index x h t (R .is) (is-full-root ∙ q))
-              (raised .first ∙ sym (insert-id (suc h) u index x (drop 2 g) ∙ lifted .id)) (add-one h) left
-              (Q .at) (Q .chain)
-              (all (untouched-more (untouched-both (raised .untouched) (Q .untouched)) (λ k z.
-              omega (
-                arith,
-                lifted .nodes k,
-                count-append k (ids h t) g,
-                count-append k (ids h t ++ g) (ids (suc h) u ++ drop 2 g),
-                count-append k (ids (suc h) u) (drop 2 g),
-              )))))
+          module _ (w′ : List ℕ) (n : ℕ) (C : BelowDone w₁ w′ (known .levels + 1) root index x n) where
+            below : InsertsBelow w₁ w′ (suc h) u (drop 2 g) index x n
+            below = (rw (add-one (known .levels)) at C) raised-ready
+
+            pub full-left : n ≤ known .free - 2
+            full-left = omega (arith, below .taken, lifted .need, enough, needs-two, free-count b)
+
+            pub full-inserted : Inserts w w′ (b .bag) index x known
+                (record { done = true; known = record { root = root; levels = known .levels + 1; free = known .free - 2 - n } })
+            full-inserted =
+                let Q = below .grew in
+                accepts
+                (grown (suc h) (insertNonFull (suc h) u index x (drop 2 g))
+                (record { root = root; levels = known .levels + 1; free = known .free - 2 - n })
+                (bag-full (b .bag) index x h t (R .is) (is-full-root ∙ q))
+                (raised .first ∙ sym (insert-id (suc h) u index x (drop 2 g) ∙ lifted .id)) (add-one h)
+                (left (known .free - 2 - n) (omega (arith, full-left, two-free, below .taken, lifted .need, needs-two)))
+                (Q .at) (Q .chain)
+                (all (untouched-more (untouched-both (raised .untouched) (Q .untouched)) (λ k z.
+                omega (
+                  arith,
+                  lifted .nodes k,
+                  count-append k (ids h t) g,
+                  count-append k (ids h t ++ g) (ids (suc h) u ++ drop 2 g),
+                  count-append k (ids (suc h) u) (drop 2 g),
+                )))))

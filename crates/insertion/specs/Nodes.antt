@@ -1,11 +1,7 @@
 -- What functions on single nodes ask of them.
-use mathlib.Core.Path.{_≡_}
-use mathlib.Core.List.{List, map}
-use Prim.Native.Nat.{ℕ, _+_, _^_, _≤_, _<_}
-use lib.ListN.{length, getD, replicate}
-use Rattle.lists.specs.Lists.{sum}
-use Rattle.pool.specs.Layout.{nodeWords}
-use Rattle.pool.specs.Parts.{Inside, Stored, lengthAt}
+use mathlib.Core.List.{List}
+use Prim.Native.Nat.{ℕ, _^_, _≤_, _<_}
+use lib.ListN.{length}
 use Rattle.tree.specs.Node.{Node}
 
 -- node k has room for an element at place i
@@ -15,36 +11,7 @@ pub record Takes (w : List ℕ) (k i : ℕ) : Type 0 where
   pub room : length (node .elems) < 31
   pub small : node .size < 2 ^ 32
 
--- the same of a node with children
-pub record TakesKid (w : List ℕ) (k c : ℕ) : Type 0 where
-  pub node : Node w k
-  pub place : c ≤ length (node .elems)
-  pub room : length (node .elems) < 31
-  pub one-more : length (node .kids) ≡ length (node .elems) + 1
-
 -- node k can count one element more
 pub record Counts (w : List ℕ) (k : ℕ) : Type 0 where
   pub node : Node w k
   pub small : node .size < 2 ^ 32
-
--- all children of node k lie in the pool
-pub record Summed (w : List ℕ) (k from : ℕ) : Type 0 where
-  pub node : Node w k
-  pub start : from ≤ 16
-  pub kids : (c : ℕ) → c < length (node .kids) → Inside w (getD (node .kids) c 0)
-  pub small : sum (map (lengthAt w) (node .kids)) < 2 ^ 32
-
--- node k has 31 elements
-pub record Full (w : List ℕ) (k : ℕ) : Type 0 where
-  pub node : Node w k
-  pub full : length (node .elems) ≡ 31
-
--- all words of node k are 0
-abbrev pub Blank : List ℕ → ℕ → Type 0
-Blank w k = Stored w k (replicate nodeWords 0)
-
--- node k is full, and node j blank
-pub record Moves (w : List ℕ) (k j : ℕ) : Type 0 where
-  pub node : Node w k
-  pub full : length (node .elems) ≡ 31
-  pub blank : Blank w j

@@ -1,26 +1,14 @@
--- When a child can be split and an element inserted, and what an insertion into the whole list leaves.
+-- When an element can be inserted, and what an insertion into the whole list leaves.
 use mathlib.Core.Path.{_≡_}
 use mathlib.Core.Bool.{true, false}
 use mathlib.Core.List.{List}
-use Prim.Native.Nat.{ℕ, suc, _≤_, _<_}
+use Prim.Native.Nat.{ℕ, _≤_, _<_}
 use lib.ListN.{length}
-use Rattle.model.specs.Tree.{Tree, kid, size, Bag, listOf}
+use Rattle.model.specs.Tree.{Tree, size, Bag, listOf}
 use Rattle.model.specs.Insert.{neededBelow, needed, bagInsert}
 use Rattle.tree.specs.declared.Known.{Known}
 use Rattle.tree.specs.Stands.{Owns, knownOf, BagStands, Became}
 use Rattle.insertion.specs.declared.Placed.{Placed}
-
--- child c of node id is full, there is room for one more beside it, and a node is free
-pub record SplitReady (w : List ℕ) (id c : ℕ) : Type 0 where
-  pub height : ℕ
-  pub tree : Tree (suc height)
-  pub free : List ℕ
-  pub owns : Owns w (suc height) tree free
-  pub here : tree .id ≡ id
-  pub place : c < length (tree .kids)
-  pub full : length (kid height tree c .elems) ≡ 31
-  pub room : length (tree .elems) < 31
-  pub some : 0 < length free
 
 -- an element can be inserted at the index below node id, which is not full
 pub record InsertReady (w : List ℕ) (h id index : ℕ) : Type 0 where

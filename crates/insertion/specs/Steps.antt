@@ -1,14 +1,13 @@
--- The steps of an insertion: room made for it at one level, the nodes it needs, and a full root raised.
+-- The steps of an insertion: room made for it at one level, an element put below a node, and the nodes that it needs.
 use mathlib.Core.Path.{_≡_}
-use mathlib.Core.Bool.{true, false}
-use mathlib.Core.List.{List, _++_}
+use mathlib.Core.Bool.{true, false, cond}
+use mathlib.Core.List.{List}
 use Prim.Native.Nat.{ℕ, suc, _≤_}
-use lib.ListN.{length, getD, drop}
-use Rattle.model.specs.Tree.{Tree, kid, size, ids, find}
-use Rattle.model.specs.Insert.{isFull, splitChild, Grown, aboveRoot}
-use Rattle.pool.specs.Parts.{At, ChainAt}
-use Rattle.pool.specs.Chain.{Untouched}
-use Rattle.tree.specs.Stands.{Stands, Owns, Reshaped}
+use lib.ListN.{getD, drop}
+use Rattle.model.specs.Tree.{Tree, kid, size, find}
+use Rattle.model.specs.Insert.{isFull, splitChild, Grown, insertNonFull, neededBelow}
+use Rattle.tree.specs.Stands.{Stands, Reshaped}
+use Rattle.insertion.specs.declared.Entry.{Entry}
 use Rattle.insertion.specs.Ready.{InsertReady}
 
 -- t and f became what g holds
@@ -30,24 +29,19 @@ roomed h t i f =
       | true ↦ record { tree = splitChild h t c (getD f 0 0); free = drop 1 f }
     ]
 
+-- that was done, and r is where the index goes then
+pub record MakesRoom (w w′ : List ℕ) (h : ℕ) (t : Tree (suc h)) (f : List ℕ) (index : ℕ) (r : Entry) : Type 0 where
+  pub grew : Grew w w′ (suc h) t f (roomed h t index f)
+  pub id : r .id ≡ (let s = roomed h t index f .tree in kid h s (find h s index .child) .id)
+  pub sub : r .sub ≡ find h (roomed h t index f .tree) index .sub
+  pub taken : r .taken ≡ cond (isFull h (kid h t (find h t index .child))) 1 0
+
+-- x was inserted below a node, and n nodes were taken
+pub record InsertsBelow (w w′ : List ℕ) (h : ℕ) (t : Tree h) (f : List ℕ) (index x n : ℕ) : Type 0 where
+  pub grew : Grew w w′ h t f (insertNonFull h t index x f)
+  pub taken : n ≡ neededBelow h t index
+
 -- the tree at node id takes an insertion at the index
 pub record Upto (w : List ℕ) (h id index : ℕ) : Type 0 where
   pub stands : Stands w h id
   pub upto : index ≤ size h (stands .tree)
-
--- the root is full, and two nodes are free
-pub record RaiseReady (w : List ℕ) (old : ℕ) : Type 0 where
-  pub height : ℕ
-  pub tree : Tree height
-  pub free : List ℕ
-  pub owns : Owns w height tree free
-  pub here : tree .id ≡ old
-  pub full : length (tree .elems) ≡ 31
-  pub two : 2 ≤ length free
-
--- the first free node became the new root, the second the sibling
-pub record Raised (w w′ : List ℕ) (h : ℕ) (t : Tree h) (f : List ℕ) (r : ℕ) : Type 0 where
-  pub first : r ≡ getD f 0 0
-  pub at : At w′ (suc h) (aboveRoot h t f)
-  pub chain : ChainAt w′ (drop 2 f)
-  pub untouched : Untouched w w′ (ids h t ++ f)

@@ -1,21 +1,17 @@
 // Insertion into a tree that is known to stand in the pool.
 ghost use mathlib.Core.Path.{_≡_};
-ghost use mathlib.Core.List.{[], _∷_, map};
-ghost use Prim.Native.Nat.{suc, _+_};
-ghost use lib.Dec.{leb};
-ghost use lib.ListN.{length, getD, take, drop};
-ghost use Rattle.lists.specs.Lists.{sum, insertAt};
-ghost use Rattle.model.specs.Insert.{splitChild, insertNonFull, neededBelow, needed as neededFor};
+ghost use Prim.Native.Nat.{_+_};
+ghost use lib.Dec.{leb, ltb};
+ghost use lib.ListN.{length};
+ghost use Rattle.lists.specs.Lists.{insertAt};
+ghost use Rattle.model.specs.Insert.{neededBelow, needed as neededFor};
 ghost use Rattle.pool.specs.Layout.{nodeBlock, withBlock};
-ghost use Rattle.pool.specs.Parts.{lengthAt};
 ghost use Rattle.tree.specs.Node.{Node};
-ghost use Rattle.tree.specs.Stands.{Reshaped};
-ghost use Rattle.insertion.specs.Nodes.{Takes, TakesKid, Counts, Summed, Full, Moves, Blank};
-ghost use Rattle.insertion.specs.Ready.{SplitReady, InsertReady, BagReady, Inserts};
-ghost use Rattle.insertion.specs.Steps.{Grew, RoomReady, roomed, Upto, RaiseReady, Raised};
+ghost use Rattle.insertion.specs.Nodes.{Takes, Counts};
+ghost use Rattle.insertion.specs.Ready.{InsertReady, BagReady, Inserts};
+ghost use Rattle.insertion.specs.Steps.{RoomReady, MakesRoom, InsertsBelow, Upto};
 use pool::COUNT;
 use pool::ELEMS;
-use pool::KIDS;
 use pool::LENGTH;
 use pool::NODE_WORDS;
 use tree::Known;
@@ -26,6 +22,13 @@ pub struct Placed {
     pub known: Known,
 }
 
+// Where an insertion goes on from a node: the child with room, the index in it, and how many nodes were taken to make the room.
+pub struct Entry {
+    pub id: usize,
+    pub sub: usize,
+    pub taken: usize,
+}
+
 // Whether node k is full.
 fn is_full(pool: &[u64], k: usize) -> bool
     requires { ⌜ Node (now pool) k ⌝ }
@@ -33,26 +36,6 @@ fn is_full(pool: &[u64], k: usize) -> bool
 {
     let a = pool::start_of(k);
     pool::is_full(&pool[a..a + NODE_WORDS])
-}
-
-// The elements below 16 children of node k, from child `from` on; a leaf has none.
-fn sum_lengths(pool: &[u64], k: usize, from: usize) -> usize
-    requires { ⌜ Summed (now pool) k from ⌝ }
-    ensures { λ r. ⌜ ((s : Summed (now (pool .entry)) k from)
-        → r ≡ sum (map (lengthAt (now (pool .entry))) (take 16 (drop from (s .node .kids))))) ⌝ }
-{
-    let a = pool::start_of(k);
-    let node = &pool[a..a + NODE_WORDS];
-    let mut sum = 0;
-    let mut i = 0;
-    while i < 16 {
-        let j = pool::kid(node, from + i);
-        if j != 0 {
-            sum += pool::length_at(pool, j);
-        }
-        i += 1;
-    }
-    sum
 }
 
 // Puts x into node k, as its element i.
@@ -70,21 +53,6 @@ fn put_element(pool: &mut [u64], k: usize, i: usize, x: u64)
     node[LENGTH] = all + 1;
 }
 
-// Puts x into node k, as its element c, and child j behind it. Both come from below the node.
-fn put_separator(pool: &mut [u64], k: usize, c: usize, x: u64, j: usize)
-    requires { ⌜ TakesKid (now pool) k c ⌝ }
-    ensures { λ _. ⌜ ((s : TakesKid (now (pool .entry)) k c)
-        → now (pool .exit) ≡ withBlock (now (pool .entry)) k
-        (nodeBlock (s .node .size) (insertAt (s .node .elems) c x) (insertAt (s .node .kids) (c + 1) j))) ⌝ }
-{
-    let a = pool::start_of(k);
-    let node = &mut pool[a..a + NODE_WORDS];
-    let n = node[COUNT] as usize;
-    words::open_gap(node, ELEMS + c, ELEMS + n, x);
-    words::open_gap(node, KIDS + (c + 1), KIDS + (n + 1), j as u64);
-    node[COUNT] = (n + 1) as u64;
-}
-
 // One element more is below node k.
 fn lengthen(pool: &mut [u64], k: usize)
     requires { ⌜ Counts (now pool) k ⌝ }
@@ -95,89 +63,49 @@ fn lengthen(pool: &mut [u64], k: usize)
     pool[a + LENGTH] += 1;
 }
 
-// The upper half of node k goes to the blank node j, whose length is n then.
-fn move_upper(pool: &mut [u64], k: usize, j: usize, n: usize)
-    requires { ⌜ Moves (now pool) k j ⌝ }
-    ensures { λ _. ⌜ ((s : Moves (now (pool .entry)) k j)
-        → now (pool .exit) ≡ withBlock (now (pool .entry)) j (nodeBlock n (drop 16 (s .node .elems)) (drop 16 (s .node .kids)))) ⌝ }
-{
-    let a = pool::start_of(k);
-    let b = pool::start_of(j);
-    words::copy_run(pool, a + (ELEMS + 16), b + ELEMS, 15);
-    words::copy_run(pool, a + (KIDS + 16), b + KIDS, 16);
-    pool[b + COUNT] = 15;
-    pool[b + LENGTH] = n as u64;
-}
-
-// Node k keeps its lower half, and its length is n then.
-fn keep_lower(pool: &mut [u64], k: usize, n: usize)
-    requires { ⌜ Full (now pool) k ⌝ }
-    ensures { λ _. ⌜ ((s : Full (now (pool .entry)) k)
-        → now (pool .exit) ≡ withBlock (now (pool .entry)) k (nodeBlock n (take 15 (s .node .elems)) (take 16 (s .node .kids)))) ⌝ }
-{
-    let a = pool::start_of(k);
-    let node = &mut pool[a..a + NODE_WORDS];
-    words::clear_run(node, ELEMS + 15, 16);
-    words::clear_run(node, KIDS + 16, 16);
-    node[COUNT] = 15;
-    node[LENGTH] = n as u64;
-}
-
-// The blank node k becomes a node without elements over one child, below which are n elements.
-fn put_above(pool: &mut [u64], k: usize, child: usize, n: usize)
-    requires { ⌜ Blank (now pool) k ⌝ }
-    ensures { λ _. ⌜ now (pool .exit) ≡ withBlock (now (pool .entry)) k (nodeBlock n [] (child ∷ [])) ⌝ }
-{
-    let a = pool::start_of(k);
-    let node = &mut pool[a..a + NODE_WORDS];
-    node[LENGTH] = n as u64;
-    node[KIDS] = child as u64;
-}
-
-// Child c of node id, which is full, gives its upper half to a new sibling behind it, and its middle element to the node.
-pub fn split_child(pool: &mut [u64], id: usize, c: usize)
-    requires { ⌜ SplitReady (now pool) id c ⌝ }
-    ensures { λ _. ⌜ ((s : SplitReady (now (pool .entry)) id c)
-        → Reshaped (now (pool .entry)) (now (pool .exit)) (suc (s .height)) (s .tree) (s .free)
-        (splitChild (s .height) (s .tree) c (getD (s .free) 0 0)) (drop 1 (s .free))) ⌝ }
-{
-    let child = tree::child(pool, id, c);
-    let middle = tree::element(pool, child, 15);
-    let left = sum_lengths(pool, child, 0) + 15;
-    let right = sum_lengths(pool, child, 16) + 15;
-    let sibling = pool::take_node(pool);
-    move_upper(pool, child, sibling, right);
-    keep_lower(pool, child, left);
-    put_separator(pool, id, c, middle, sibling);
-}
-
-// If the child that the index goes into is full, it is split.
-fn make_room(pool: &mut [u64], id: usize, index: usize)
+// The child that the index goes into, with room in it: if it is full, it is split, and the search is made again.
+fn make_room(pool: &mut [u64], id: usize, index: usize) -> Entry
     requires { ⌜ RoomReady (now pool) id index ⌝ }
-    ensures { λ _. ⌜ ((r : RoomReady (now (pool .entry)) id index)
-        → Grew (now (pool .entry)) (now (pool .exit)) (suc (r .height)) (r .ready .tree) (r .ready .free)
-        (roomed (r .height) (r .ready .tree) index (r .ready .free))) ⌝ }
+    ensures { λ r. ⌜ ((q : RoomReady (now (pool .entry)) id index)
+        → MakesRoom (now (pool .entry)) (now (pool .exit)) (q .height) (q .ready .tree) (q .ready .free) index r) ⌝ }
 {
     let t = tree::way_to(pool, id, index);
     if is_full(pool, t.id) {
-        split_child(pool, id, t.child);
+        split::split_child(pool, id, t.child);
+        let t = tree::way_to(pool, id, index);
+        return Entry {
+            id: t.id,
+            sub: t.sub,
+            taken: 1,
+        };
+    }
+    Entry {
+        id: t.id,
+        sub: t.sub,
+        taken: 0,
     }
 }
 
-// Puts x at the index below node id, which is not full. After a split the search is made again.
-pub fn insert_into_non_full_node(pool: &mut [u64], id: usize, levels: usize, index: usize, x: u64)
+// Puts x at the index below node id, which is not full. Gives the number of nodes that this took.
+fn insert_into_non_full_node(
+    pool: &mut [u64],
+    id: usize,
+    levels: usize,
+    index: usize,
+    x: u64,
+) -> usize
     requires { ⌜ InsertReady (now pool) levels id index ⌝ }
-    ensures { λ _. ⌜ ((r : InsertReady (now (pool .entry)) levels id index)
-        → Grew (now (pool .entry)) (now (pool .exit)) levels (r .tree) (r .free) (insertNonFull levels (r .tree) index x (r .free))) ⌝ }
+    ensures { λ r. ⌜ ((q : InsertReady (now (pool .entry)) levels id index)
+        → InsertsBelow (now (pool .entry)) (now (pool .exit)) levels (q .tree) (q .free) index x r) ⌝ }
 {
     if levels == 0 {
         put_element(pool, id, index, x);
-        return;
+        return 0;
     }
-    make_room(pool, id, index);
-    let t = tree::way_to(pool, id, index);
-    insert_into_non_full_node(pool, t.id, levels - 1, t.sub, x);
+    let r = make_room(pool, id, index);
+    let below = insert_into_non_full_node(pool, r.id, levels - 1, r.sub, x);
     lengthen(pool, id);
+    r.taken + below
 }
 
 // The full nodes below node id on the way to the index.
@@ -197,7 +125,7 @@ fn needed_below(pool: &[u64], id: usize, levels: usize, index: usize) -> usize
 }
 
 // How many nodes an insertion at the index takes.
-pub fn needed(pool: &[u64], known: Known, index: usize) -> usize
+fn needed(pool: &[u64], known: Known, index: usize) -> usize
     requires { ⌜ BagReady (now pool) known index ⌝ }
     ensures { λ r. ⌜ ((b : BagReady (now (pool .entry)) known index) → r ≡ neededFor (b .bag .root) index) ⌝ }
 {
@@ -211,17 +139,17 @@ pub fn needed(pool: &[u64], known: Known, index: usize) -> usize
     below
 }
 
-// The full root goes under a new root, and is split. Gives the new root.
-fn raise_root(pool: &mut [u64], old: usize) -> usize
-    requires { ⌜ RaiseReady (now pool) old ⌝ }
-    ensures { λ r. ⌜ ((s : RaiseReady (now (pool .entry)) old)
-        → Raised (now (pool .entry)) (now (pool .exit)) (s .height) (s .tree) (s .free) r) ⌝ }
+// Whether fewer nodes are free than an insertion at the index takes. It takes no more than one for each level and two for the root:
+// where so many are free, nothing is searched.
+fn lacks_room(pool: &[u64], known: Known, index: usize) -> bool
+    requires { ⌜ BagReady (now pool) known index ⌝ }
+    ensures { λ r. ⌜ ((b : BagReady (now (pool .entry)) known index) → r ≡ ltb (known .free) (neededFor (b .bag .root) index)) ⌝ }
 {
-    let n = pool::length_at(pool, old);
-    let root = pool::take_node(pool);
-    put_above(pool, root, old, n);
-    split_child(pool, root, 0);
-    root
+    if known.levels + 2 <= known.free {
+        return false;
+    }
+    let n = needed(pool, known, index);
+    known.free < n
 }
 
 // Puts x at the index, if the nodes that this needs are free.
@@ -230,28 +158,29 @@ pub fn insert(pool: &mut [u64], known: Known, index: usize, x: u64) -> Placed
     ensures { λ r. ⌜ ((b : BagReady (now (pool .entry)) known index)
         → Inserts (now (pool .entry)) (now (pool .exit)) (b .bag) index x known r) ⌝ }
 {
-    let n = needed(pool, known, index);
-    if known.free < n {
+    if lacks_room(pool, known, index) {
         return Placed { done: false, known };
     }
-    let free = known.free - n;
     if known.root == 0 {
         let root = pool::take_node(pool);
         put_element(pool, root, 0, x);
         let levels = 0;
+        let free = known.free - 1;
         let known = Known { root, levels, free };
         return Placed { done: true, known };
     }
     if is_full(pool, known.root) {
-        let root = raise_root(pool, known.root);
+        let root = split::raise_root(pool, known.root);
         let levels = known.levels + 1;
-        insert_into_non_full_node(pool, root, levels, index, x);
+        let taken = insert_into_non_full_node(pool, root, levels, index, x);
+        let free = known.free - 2 - taken;
         let known = Known { root, levels, free };
         return Placed { done: true, known };
     }
     let root = known.root;
     let levels = known.levels;
-    insert_into_non_full_node(pool, root, levels, index, x);
+    let taken = insert_into_non_full_node(pool, root, levels, index, x);
+    let free = known.free - taken;
     let known = Known { root, levels, free };
     Placed { done: true, known }
 }

@@ -10,7 +10,7 @@ use lib.ListN.{length, length-append}
 use Rattle.lists.specs.Lists.{sum}
 use Rattle.lists.proofs.All.{All, nil, cons, all-take, all-drop, all-map}
 use Rattle.lists.proofs.Sums.{total, total-at, total-least, measure-concat}
-use Rattle.model.specs.Tree.{Tree, none, kid, size, ids, flat, find, Root, bare, rooted, Bag, listOf, rootIds, bagGet}
+use Rattle.model.specs.Tree.{Tree, none, kid, size, ids, flat, find, Root, bare, rooted, Bag, listOf, rootIds, levelsOf, bagGet}
 use Rattle.model.specs.Fit.{Fit, FitTree, FitRoot}
 use Rattle.model.specs.Insert.{isFull, neededBelow, needed}
 use Rattle.model.proofs.Nodes.{shape, flat-length}
@@ -19,6 +19,10 @@ use Rattle.model.proofs.Get.{get-law}
 use Rattle.model.proofs.Insert.{full}
 
 -- ---- the room that an insertion needs
+
+at-most : (b : Bool) (n : ℕ) → cond b n 0 ≤ n
+at-most true n = omega arith
+at-most false n = omega arith
 
 abbrev nodes : (h : ℕ) → Tree h → ℕ
 nodes h t = length (ids h t)
@@ -89,6 +93,19 @@ pub enough : (r : Root) → FitRoot r → (i : ℕ) → i ≤ length (listOf r) 
     → length (rootIds r) + needed r i ≤ p
 enough r F i l p n = omega (arith, room r F i l)
 
+-- an insertion takes at most one node for each level below the root, and two for the root
+pub needed-below : (h : ℕ) (t : Tree h) (i : ℕ) → neededBelow h t i ≤ h
+unfolding neededBelow
+needed-below zero t i = omega arith
+needed-below (suc h) t i =
+    let k : Tree h = kid h t (find h t i .child) in
+    omega (arith, at-most (isFull h k) 1, needed-below h k (find h t i .sub))
+
+pub needed-most : (r : Root) (i : ℕ) → needed r i ≤ levelsOf r + 2
+unfolding needed levelsOf
+needed-most bare i = omega arith
+needed-most (rooted h t) i = omega (arith, at-most (isFull h t) 2, needed-below h t i)
+
 -- ---- the height
 
 -- a tree whose root has n elements or more
@@ -111,6 +128,11 @@ levels-few h t F = omega (arith, height h t F, grows h)
     grows : (n : ℕ) → suc n ≤ 16 ^ n
     grows zero = omega arith
     grows (suc n) = rw (pow-succ' 16 n) (omega (arith, grows n))
+
+pub root-levels : (r : Root) → FitRoot r → levelsOf r ≤ length (listOf r)
+unfolding listOf levelsOf
+root-levels bare F = omega arith
+root-levels (rooted h t) F = omega (arith, levels-few h t F, flat-length h t (F .fit))
 
 -- demand 3: a lookup among fewer than 2 · 16 ^ m - 1 samples compares at most 32 children in each of m - 1 levels
 pub compared-most : (b : Bag) (i : ℕ) → FitRoot (b .root) → i < length (listOf (b .root)) → (m : ℕ) → 1 ≤ m

@@ -1,17 +1,18 @@
 -- One node of a tree in the pool: its words from the tree, its elements read and replaced.
 use mathlib.Core.Path.{_≡_, sym, ap, ap₂, subst, _∙_}
 use mathlib.Core.List.{List, [], _∷_}
-use Prim.Native.Nat.{ℕ, _+_, _≤_, _<_}
+use Prim.Native.Nat.{ℕ, _+_, _-_, _≤_, _<_}
 use native.Mathlib.Nat.{add-assoc}
 use native.Mathlib.Omega.{arith}
+use borrow.Rule.Slice.PartMut.{putMid}
 use lib.ListN.{length, getD, set, length-set}
 use Rattle.model.specs.Tree.{Tree, size}
 use Rattle.model.specs.Fit.{Fit}
 use Rattle.model.proofs.Nodes.{most}
 use Rattle.pool.specs.Layout.{nodeWords, start, withBlock, slots, nodeBlock, kidIds, rootBlock}
-use Rattle.pool.specs.Parts.{Stored, At, countAt, lengthAt}
+use Rattle.pool.specs.Parts.{Inside, Stored, At, countAt, lengthAt}
 use Rattle.pool.proofs.Block.{block-word}
-use Rattle.pool.proofs.Store.{set-block, part, block-in}
+use Rattle.pool.proofs.Store.{set-block, part, block-in, block-put}
 use Rattle.pool.proofs.Blocks.{length-slots, length-nodeBlock, most-kids}
 use Rattle.pool.proofs.Slots.{parts, parts-elems, slots-store}
 use Rattle.pool.proofs.Node.{node-elem, node-kid}
@@ -67,6 +68,18 @@ module _ {w : List ℕ} {k : ℕ} (m : Node w k) (a : ℕ) (ea : a ≡ start k) 
   pub length-word : getD w (a + 1) 0 ≡ m .size
   unfolding nodeBlock
   length-word = rw (ea, ← (block-word w k 1 (omega arith)), m .stored .is)
+
+-- ---- a node's words when its lists have changed
+
+-- with the count of the new elements they are a node's
+pub counted : (z n : ℕ) (es ks : List ℕ) → length es ≡ z → parts z n (slots 31 es) (slots 32 ks) 0 ≡ nodeBlock n es ks
+unfolding nodeBlock
+counted z n es ks e = ap (λ (c : ℕ). parts c n (slots 31 es) (slots 32 ks) 0) (sym e)
+
+-- the pool when they came back
+pub came-back : (w : List ℕ) (a k : ℕ) → a ≡ start k → Inside w k → {ys : List ℕ} (n : ℕ) (es ks : List ℕ) → ys ≡ nodeBlock n es ks
+    → length es ≤ 31 → length ks ≤ 32 → putMid a (a + nodeWords - a) w ys ≡ withBlock w k (nodeBlock n es ks)
+came-back w a k ea I n es ks e le lk = rw e (block-put w a k ea (nodeBlock n es ks) I (length-nodeBlock n es ks le lk))
 
 -- an element of a block replaced
 node-set : (n : ℕ) (es ks : List ℕ) (i x : ℕ) → length es ≤ 31 → i < length es → set (nodeBlock n es ks) (2 + i) x ≡ nodeBlock n (set es i x) ks

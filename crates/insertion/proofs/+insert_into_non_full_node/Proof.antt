@@ -3,7 +3,7 @@
 use Prim.Native.Nat.{ℕ, _<_}
 use native.Mathlib.Omega.{arith}
 use borrow.Author.Needs.{needs}
-use Rattle.insertion.proofs.Inserting.{as-leaf, leaf-done, as-room, as-above, as-next, as-counts, all-done}
+use Rattle.insertion.proofs.Inserting.{as-leaf, leaf-done, as-room, as-next, as-counts, as-few, all-done}
 use borrow.Fn.Kinds.{In}
 use borrow.Fn.PlainCycle.{Measures, is, falls, and}
 use Rattle.insertion.proofs.insert_into_non_full_node.Reads as own
@@ -12,7 +12,6 @@ use Rattle.insertion.proofs.+insert_into_non_full_node.Lts-insert_into_
 use Rattle.insertion.proofs.lengthen.Reads as lengthen
 use Rattle.insertion.proofs.make_room.Reads as make-room
 use Rattle.insertion.proofs.put_element.Reads as put-element
-use Rattle.tree.proofs.way_to.Reads as way-to
 use Rattle.insertion.proofs.+insert_into_non_full_node.{statement}
 use Rattle.insertion.proofs.+insert_into_non_full_node.Tie.{close}
 
@@ -29,8 +28,6 @@ module _ (t : ℕ) where
     put-element.Learnt,
     make-room.Asked,
     make-room.Learnt,
-    way-to.Asked,
-    way-to.Learnt,
     and 1 kinds.ps (falls 1 kinds.ps _<_ μ t) own.Pre,
     own.Post,
     lengthen.Asked,
@@ -38,7 +35,10 @@ module _ (t : ℕ) where
   )
 
   put-element-requires : lts.Need-put-element-requires claims at own.Post
-  put-element-requires c κs = as-leaf _ (c .before .if1 .taken) (c .before .before .before .pre .1)
+  put-element-requires c κs =
+      let c₁ = c .before in
+      let c₂ = c₁ .before .before in
+      as-leaf _ (c₁ .if1 .taken) (c₂ .pre .1)
 
   returns : lts.Need-returns claims at own.Post
   returns c =
@@ -47,43 +47,39 @@ module _ (t : ℕ) where
       leaf-done _ (c₂ .if1 .taken) _ _ (c₁ .put-element .ensures)
 
   make-room-requires : lts.Need-make-room-requires claims at own.Post
-  make-room-requires c κs = as-room _ (c .before .if1 .left) (c .before .before .before .pre .1)
-
-  way-to-requires : lts.Need-way-to-requires claims at own.Post
-  way-to-requires c κs =
-      let c₁ = c .before .before .before in
+  make-room-requires c κs =
+      let c₁ = c .before in
       let c₂ = c₁ .before .before in
-      let c₃ = c₂ .before .before in
-      as-above _ (c₁ .make-room .ensures) _ (c₂ .if1 .left) (c₃ .pre .1)
+      as-room _ (c₁ .if1 .left) (c₂ .pre .1)
 
   insert-into-non-full-node-requires : lts.Need-insert-into-non-full-node-requires claims at own.Post
   insert-into-non-full-node-requires c κs =
-      let c₁ = c .before in
+      let c₁ = c .before .before .before in
       let c₂ = c₁ .before .before .before .before in
-      let c₃ = c₂ .before .before .before .before in (
-        omega (arith, c₃ .pre .0),
-        as-next _ (c₂ .make-room .ensures) _ (c₁ .way-to .ensures) _ _ (omega arith) (c₃ .pre .1),
-      )
+      (omega (arith, c₂ .pre .0), as-next _ _ (c₁ .make-room .ensures) _ _ (omega arith) (c₂ .pre .1))
 
   lengthen-requires : lts.Need-lengthen-requires claims at own.Post
   lengthen-requires c κs =
       let c₁ = c .before .before .before in
-      let c₂ = c₁ .before .before in
+      let c₂ = c₁ .before .before .before .before in
       let c₃ = c₂ .before .before .before .before in
-      let c₄ = c₃ .before .before .before .before in
-      as-counts _ (c₃ .make-room .ensures) _ (c₂ .way-to .ensures) _ _ _ _ (omega arith) (c₁ .insert-into-non-full-node .ensures)
-      (c₄ .pre .1)
+      as-counts _ _ (c₂ .make-room .ensures) _ _ _ _ _ (omega arith) (c₁ .insert-into-non-full-node .ensures) (c₃ .pre .1)
+
+  add-result : lts.Need-add-result claims at own.Post
+  add-result c =
+      let c₁ = c .before .before .before .before .before .before .before in
+      let c₂ = c₁ .before .before .before .before in
+      let c₃ = c₂ .before .before .before .before in
+      omega (arith, as-few _ _ (c₂ .make-room .ensures) _ _ _ _ _ (omega arith) (c₁ .insert-into-non-full-node .ensures) (c₃ .pre .1))
 
   returns-2 : lts.Need-returns-2 claims at own.Post
   returns-2 c =
-      let c₁ = c .before .before in
+      let c₁ = c .before .before .before in
       let c₂ = c₁ .before .before .before .before in
-      let c₃ = c₂ .before .before in
-      let c₄ = c₃ .before .before .before .before in
-      all-done _ (c₄ .make-room .ensures) _ (c₃ .way-to .ensures) _ _ _ _ (omega arith) (c₂ .insert-into-non-full-node .ensures) _
-      (c₁ .lengthen .ensures)
+      let c₃ = c₂ .before .before .before .before in
+      all-done _ _ (c₃ .make-room .ensures) _ _ _ _ _ (omega arith) (c₂ .insert-into-non-full-node .ensures) _ (c₁ .lengthen .ensures)
 
 pub +insert-into-non-full-node-spec : {M : Type 1} → statement M
 +insert-into-non-full-node-spec =
     close μ λ t. lts.spec (claims t) (at t) own.Post (put-element-requires t) (λ c. search needs) (returns t) (make-room-requires t)
-    (way-to-requires t) (λ c. omega arith) (insert-into-non-full-node-requires t) (lengthen-requires t) (λ c. search needs) (returns-2 t)
+    (λ c. omega arith) (insert-into-non-full-node-requires t) (lengthen-requires t) (add-result t) (λ c. search needs) (returns-2 t)

@@ -1,6 +1,6 @@
 -- `needed` meets its contract: each answer hands what the calls ensured to a law of `Rooting`.
 use native.Mathlib.Omega.{arith}
-use Rattle.insertion.proofs.Rooting.{root-upto, root-node, root-few, needs-one, needs-two, needs-none}
+use Rattle.insertion.proofs.Rooting.{few-levels, root-upto, root-node, root-few, needs-one, needs-two, needs-none}
 use Rattle.insertion.proofs.needed.Statement.{statement}
 use Rattle.insertion.proofs.needed.Tie as tie
 
@@ -9,7 +9,7 @@ add-result c =
     let c₁ = c .before .before in
     let c₂ = c₁ .before in
     let c₃ = c₂ .before .before .before in
-    omega (arith, root-few (c₃ .pre) (c₂ .if1 .left) _ (c₁ .needed-below .ensures))
+    omega (arith, few-levels (c₃ .pre), root-few (c₃ .pre) (c₂ .if1 .left) _ (c₁ .needed-below .ensures))
 
 returns-2 : tie.Need-returns-2
 returns-2 c =

@@ -10,10 +10,10 @@ use Rattle.lists.specs.Lists.{sum as sumOf}
 use Rattle.lists.proofs.Sums.{total}
 use Rattle.pool.specs.Parts.{lengthAt}
 use Rattle.tree.proofs.Standing.{lent-long, lent-kid}
-use Rattle.insertion.specs.Nodes.{Summed}
-use Rattle.insertion.proofs.Halves.{summed-less, summed-inside, summed-one, summed-none}
-use Rattle.insertion.proofs.sum_lengths.Statement.{statement}
-use Rattle.insertion.proofs.sum_lengths.Tie as tie
+use Rattle.split.specs.Nodes.{Summed}
+use Rattle.split.proofs.Halves.{summed-less, summed-inside, summed-one, summed-none}
+use Rattle.split.proofs.sum_lengths.Statement.{statement}
+use Rattle.split.proofs.sum_lengths.Tie as tie
 
 abbrev Inv-loop : tie.InvT-loop
 Inv-loop pool k from a node sum₀ i₀ sum i =

@@ -4,11 +4,11 @@ use Prim.Native.Nat.{ℕ, _≤_}
 use native.Mathlib.Omega.{arith}
 use borrow.Author.Needs.{needs}
 use denote.Ref.{now}
-use Rattle.insertion.specs.Nodes.{Summed}
-use Rattle.insertion.proofs.Halves.{summed-less}
-use Rattle.insertion.proofs.Splitting.{has-child, has-middle, has-summed, has-free, moves, keeps, takes, split-done}
-use Rattle.insertion.proofs.split_child.Statement.{statement}
-use Rattle.insertion.proofs.split_child.Tie as tie
+use Rattle.split.specs.Nodes.{Summed}
+use Rattle.split.proofs.Halves.{summed-less}
+use Rattle.split.proofs.Splitting.{has-child, has-middle, has-summed, has-free, moves, keeps, takes, split-done}
+use Rattle.split.proofs.split_child.Statement.{statement}
+use Rattle.split.proofs.split_child.Tie as tie
 
 summed : (c : tie.After-child) (from : ℕ) → from ≤ 16 → Summed (now (c .before .before .before .args .pool)) (c .child .result) from
 summed c from l = has-summed (c .before .before .before .pre) _ (c .child .ensures) from l

@@ -6,9 +6,9 @@ use denote.Ref.{now}
 use lib.ListN.{length, getD}
 use Rattle.pool.proofs.Store.{part}
 use Rattle.tree.proofs.Standing.{lent-count}
-use Rattle.insertion.proofs.Nodes.{separator-put}
-use Rattle.insertion.proofs.put_separator.Statement.{statement}
-use Rattle.insertion.proofs.put_separator.Tie as tie
+use Rattle.split.proofs.Nodes.{separator-put}
+use Rattle.split.proofs.put_separator.Statement.{statement}
+use Rattle.split.proofs.put_separator.Tie as tie
 
 count : (c : tie.After-start-of)
     → getD (part (now (c .before .before .args .pool)) (c .start-of .result)) 0 0 ≡ length (c .before .before .pre .node .elems)

@@ -27,9 +27,9 @@ use Rattle.tree.specs.Lookup.{HasElement, HasKid}
 use Rattle.tree.specs.Stands.{Owns, Reshaped}
 use Rattle.tree.proofs.Standing.{nodeOf}
 use Rattle.tree.proofs.Edits.{each-kid, tree-at, node-untouched, kids-untouched, kids-reshaped, owns-kid, kid-count, has-kid, child-is}
-use Rattle.insertion.specs.Nodes.{TakesKid, Summed, Full, Moves}
-use Rattle.insertion.specs.Ready.{SplitReady}
-use Rattle.insertion.proofs.Halves.{left-length, right-length, summed}
+use Rattle.split.specs.Nodes.{TakesKid, Summed, Full, Moves}
+use Rattle.split.specs.Ready.{SplitReady}
+use Rattle.split.proofs.Halves.{left-length, right-length, summed}
 
 -- ---- the model: any full child may be split, its right half into the first free node
 

@@ -2,9 +2,9 @@
 use native.Mathlib.Omega.{arith}
 use borrow.Author.Needs.{needs}
 use lib.ListN.{length-set}
-use Rattle.insertion.proofs.Nodes.{lower-kept}
-use Rattle.insertion.proofs.keep_lower.Statement.{statement}
-use Rattle.insertion.proofs.keep_lower.Tie as tie
+use Rattle.split.proofs.Nodes.{lower-kept}
+use Rattle.split.proofs.keep_lower.Statement.{statement}
+use Rattle.split.proofs.keep_lower.Tie as tie
 
 returns : tie.Need-returns
 returns c =

@@ -1,8 +1,8 @@
--- `raise_root` meets its contract: each answer hands what the calls ensured to a law of `Rooting`.
+-- `raise_root` meets its contract: each answer hands what the calls ensured to a law of `Raising`.
 use borrow.Author.Needs.{needs}
-use Rattle.insertion.proofs.Rooting.{old-inside, old-free, T, root-splits, root-raised}
-use Rattle.insertion.proofs.raise_root.Statement.{statement}
-use Rattle.insertion.proofs.raise_root.Tie as tie
+use Rattle.split.proofs.Raising.{old-inside, old-free, T, root-splits, root-raised}
+use Rattle.split.proofs.raise_root.Statement.{statement}
+use Rattle.split.proofs.raise_root.Tie as tie
 
 put-above-requires : tie.Need-put-above-requires
 put-above-requires c κs =

@@ -19,7 +19,7 @@ use Rattle.pool.specs.Layout.{idOf, kidIds}
 use Rattle.pool.specs.Parts.{Inside, At, lengthAt}
 use Rattle.pool.proofs.Node.{at-length}
 use Rattle.tree.proofs.Standing.{nodeOf}
-use Rattle.insertion.specs.Nodes.{Summed}
+use Rattle.split.specs.Nodes.{Summed}
 
 -- ---- one turn of the loop
 

@@ -2,9 +2,9 @@
 use native.Mathlib.Omega.{arith}
 use borrow.Author.Needs.{needs}
 use lib.ListN.{length-set}
-use Rattle.insertion.proofs.Nodes.{above-put}
-use Rattle.insertion.proofs.put_above.Statement.{statement}
-use Rattle.insertion.proofs.put_above.Tie as tie
+use Rattle.split.proofs.Nodes.{above-put}
+use Rattle.split.proofs.put_above.Statement.{statement}
+use Rattle.split.proofs.put_above.Tie as tie
 
 returns : tie.Need-returns
 returns c =

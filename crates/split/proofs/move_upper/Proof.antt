@@ -2,9 +2,9 @@
 use native.Mathlib.Omega.{arith}
 use borrow.Author.Needs.{needs}
 use lib.ListN.{length-set}
-use Rattle.insertion.proofs.Nodes.{halves-apart, upper-moved}
-use Rattle.insertion.proofs.move_upper.Statement.{statement}
-use Rattle.insertion.proofs.move_upper.Tie as tie
+use Rattle.split.proofs.Nodes.{halves-apart, upper-moved}
+use Rattle.split.proofs.move_upper.Statement.{statement}
+use Rattle.split.proofs.move_upper.Tie as tie
 
 copy-run-requires : tie.Need-copy-run-requires
 copy-run-requires c κs =
