@@ -57,6 +57,27 @@ static void be_refused(void)
     printf("a damaged pool: %" PRIu64 "\n", bag_len(pool, WORDS).number);
 }
 
+/*
+ * Commands in bytes, run by one call on an empty bag: scan tube 7, look it up at 0, take out the tube at 1, which is refused. The answers
+ * have room for up to 27 bytes, and a command runs only if 13 are left.
+ */
+static void run_commands(size_t room)
+{
+    static const uint8_t commands[] = {
+        3, 7, 0, 0, 0, 0, 0, 0, 0, /* push 7 */
+        4, 0, 0, 0, 0,             /* get 0 */
+        2, 1, 0, 0, 0,             /* remove 1 */
+    };
+    uint8_t answers[27];
+    printf("formatted: %" PRIu64 "\n", bag_format(pool, WORDS).number);
+    bag_ran ran = bag_batch(pool, WORDS, commands, sizeof commands, answers, room);
+    printf("batch into %" PRIu64 " bytes: %" PRIu64 " after %" PRIu64 " commands, ", (uint64_t)room, ran.number, ran.commands);
+    printf("%" PRIu64 " bytes read, %" PRIu64 " written:", ran.read, ran.written);
+    for (uint64_t i = 0; i < ran.written; i++)
+        printf(" %02x", (unsigned)answers[i]);
+    printf("\n");
+}
+
 int main(void)
 {
     bag_answer a = bag_format(pool, WORDS);
@@ -73,5 +94,7 @@ int main(void)
     walk();
     look_through(20);
     be_refused();
+    run_commands(27);
+    run_commands(26);
     return 0;
 }

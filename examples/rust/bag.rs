@@ -53,6 +53,26 @@ fn be_refused(pool: &mut [u64]) {
     println!("a damaged pool: {}", bag::len(pool).number);
 }
 
+/// Commands in bytes, run by one call on an empty bag: scan tube 7, look it up at 0, take out the tube at 1, which is refused.
+/// The answers have room for up to 27 bytes, and a command runs only if 13 are left.
+fn run_commands(pool: &mut [u64], room: usize) {
+    #[rustfmt::skip]
+    let commands = [
+        3, 7, 0, 0, 0, 0, 0, 0, 0, // push 7
+        4, 0, 0, 0, 0,             // get 0
+        2, 1, 0, 0, 0,             // remove 1
+    ];
+    let mut answers = [0; 27];
+    println!("formatted: {}", bag::format(pool).number);
+    let ran = bag::batch(pool, &commands, &mut answers[..room]);
+    print!("batch into {room} bytes: {} after {} commands, ", ran.number, ran.commands);
+    print!("{} bytes read, {} written:", ran.read, ran.written);
+    for byte in &answers[..ran.written as usize] {
+        print!(" {byte:02x}");
+    }
+    println!();
+}
+
 fn main() {
     let pool = &mut [0; bag::words(NODES)];
     println!("formatted: {}", bag::format(pool).number);
@@ -67,4 +87,6 @@ fn main() {
     walk(pool);
     look_through(pool, 20);
     be_refused(pool);
+    run_commands(pool, 27);
+    run_commands(pool, 26);
 }
