@@ -12,7 +12,7 @@
  * - a pointer is not null, and one to words is 8-aligned, also for a length of 0, and so much can be read (and written, if not const);
  * - what a call writes does not overlap what else it is lent;
  * - no other thread touches the pool during a call;
- * - stack: 2 KB, whatever the words are (measured: 1.6 KB on the largest pool, by examples/c/bad_input.c).
+ * - stack: 2 KB, whatever the words are (measured: 1.4 KB, by examples/c/bad_input.c).
  * There is no other state, and nothing is kept between calls. The two pools of bag_equal may be the same.
  */
 #ifndef BAG_H

@@ -1,20 +1,23 @@
 -- From a pool that was admitted to the promise of a call.
-use mathlib.Core.Path.{_≡_, ap, _∙_}
+use mathlib.Core.Path.{_≡_, refl, ap, subst, _∙_}
 use mathlib.Core.List.{List}
 use Prim.Native.Nat.{ℕ, _<_}
 use native.Mathlib.Omega.{arith}
 use lib.ListN.{length, getD}
+use Rattle.model.specs.declared.Answer.{Answer}
 use Rattle.model.specs.Tree.{Bag}
+use Rattle.model.specs.Calls.{refused, Outcome}
 use Rattle.pool.specs.Layout.{rootWord}
 use Rattle.pool.specs.Sound.{Holds}
 use Rattle.pool.proofs.Whole.{holds-parts}
 use Rattle.tree.specs.declared.Known.{Known}
 use Rattle.tree.specs.Stands.{knownOf}
-use Rattle.calls.specs.Does.{Ready}
+use Rattle.calls.specs.declared.Done.{Done}
+use Rattle.calls.specs.Does.{Ready, Does}
 use Rattle.sound.specs.declared.Checked.{Checked}
 use Rattle.sound.specs.Check.{Checks}
 use Rattle.door.specs.declared.Admitted.{Admitted}
-use Rattle.door.specs.Promise.{Promise, Tells, unknown, admitted}
+use Rattle.door.specs.Promise.{Promise, Edits, Tells, unknown, admitted}
 use Rattle.door.proofs.One.{decided}
 
 -- ---- by what the check says
@@ -57,13 +60,18 @@ module _ {w : List ℕ} {o : Admitted} (O : Tells unknown admitted w o) where
   number e = ap (λ (a : Admitted). a .number) e
 
   -- refused with 4 or 1
-  pub refused-promise : {Four One : Type 0} {Held : Bag → Type 0} → (o .number ≡ 0 → ⊥) → (o .number ≡ 4 → Four) → (o .number ≡ 1 → One)
-      → Promise w Four One Held
-  refused-promise z f g = record {
-    misfit = λ n. f (number (O .misfit n));
-    unsound = λ s u. g (number (O .unsound s u));
+  pub refused-promise : (P : ℕ → Type 0) {Held : Bag → Type 0} → (o .number ≡ 0 → ⊥) → P (o .number) → Promise w (P 4) (P 1) Held
+  refused-promise P z p = record {
+    misfit = λ n. subst P (number (O .misfit n)) p;
+    unsound = λ s u. subst P (number (O .unsound s u)) p;
     holds = λ b H. absurd (z (number (O .holds b H)));
   }
+
+  pub refused-edits : {call : Bag → Outcome} {r : Answer} → (o .number ≡ 0 → ⊥) → r ≡ refused (o .number) → Edits call w r w
+  refused-edits {r = r} z e = refused-promise (λ n. (r ≡ refused n) × (w ≡ w)) z (e, refl)
+
+  pub refused-tells : {A : Type 0} (refuse : ℕ → A) {ask : Bag → A} {r : A} → (o .number ≡ 0 → ⊥) → r ≡ refuse (o .number) → Tells refuse ask w r
+  refused-tells refuse {r = r} z e = refused-promise (λ n. r ≡ refuse n) z e
 
   -- the pool holds a bag, of which this is known
   module _ (z : o .number ≡ 0) where
@@ -77,6 +85,10 @@ module _ {w : List ℕ} {o : Admitted} (O : Tells unknown admitted w o) where
       unsound = λ s u. absurd (omega (arith, number (O .unsound s u)));
       holds = λ b H. f (ready b H);
     }
+
+    pub held-edits : {call : Bag → Outcome} {d : Done} {w′ : List ℕ} → ((s : Ready w (o .known)) → Does call (s .bag) d w′)
+        → Edits call w (d .answer) w′
+    held-edits f = held-promise (λ s. (f s .answer, f s .holds))
 
     pub some-ready : Ready w (o .known)
     some-ready = decided w (λ n. absurd (omega (arith, number (O .misfit n)))) (λ s u. absurd (omega (arith, number (O .unsound s u)))) ready

@@ -1,15 +1,19 @@
 -- `batch` meets its contract: refused by the check's number with nothing changed, or what `run` does.
-use mathlib.Core.Path.{refl, ap}
+use mathlib.Core.Path.{refl}
 use borrow.Author.Needs.{needs}
+use denote.Ref.{now}
 use Rattle.door.proofs.Admitting.{refused-promise, held-promise, some-ready}
-use Rattle.batch.specs.Batch.{ranNothing}
+use Rattle.batch.specs.Batch.{ranNothing, Idle}
 use Rattle.batch.proofs.batch.Statement.{statement}
 use Rattle.batch.proofs.batch.Tie as tie
 
 returns : tie.Need-returns
 returns c =
-    refused-promise (c .before .before .admit .ensures) (c .if1 .taken) (λ e. record { ran = ap ranNothing e; words = refl; output = refl })
-    (λ e. record { ran = ap ranNothing e; words = refl; output = refl })
+    let o = c .before .before in
+    let a = o .before .before .before .before .before .args in
+    refused-promise (o .admit .ensures)
+    (λ n. Idle n (now (a .pool)) (now (a .output)) (ranNothing (o .admit .result .number)) (now (a .pool)) (now (a .output))) (c .if1 .taken)
+    (record { ran = refl; words = refl; output = refl })
 
 run-requires : tie.Need-run-requires
 run-requires c κs = some-ready (c .before .before .before .before .admit .ensures) (c .before .before .if1 .left)

@@ -2,14 +2,12 @@
 use mathlib.Core.Path.{ap, _∙_}
 use borrow.Author.Needs.{needs}
 use Rattle.model.specs.Calls.{refused, gives, lenCall}
-use Rattle.door.proofs.Admitting.{refused-promise, held-promise, some-ready}
+use Rattle.door.proofs.Admitting.{refused-tells, held-promise, some-ready}
 use Rattle.door.proofs.len.Statement.{statement}
 use Rattle.door.proofs.len.Tie as tie
 
 returns : tie.Need-returns
-returns c =
-    refused-promise (c .before .before .before .admit .ensures) (c .before .if1 .taken) (λ e. c .refuse .ensures ∙ ap refused e)
-    (λ e. c .refuse .ensures ∙ ap refused e)
+returns c = refused-tells (c .before .before .before .admit .ensures) refused (c .before .if1 .taken) (c .refuse .ensures)
 
 len-requires : tie.Need-len-requires
 len-requires c κs = some-ready (c .before .before .admit .ensures) (c .if1 .left)

@@ -1,12 +1,13 @@
 -- `part` meets its contract: nowhere if refused, else what the call on the bag tells.
 use mathlib.Core.Path.{refl}
 use borrow.Author.Needs.{needs}
-use Rattle.door.proofs.Admitting.{refused-promise, held-promise, some-ready}
+use Rattle.calls.specs.Part.{nowhere}
+use Rattle.door.proofs.Admitting.{refused-tells, held-promise, some-ready}
 use Rattle.door.proofs.part.Statement.{statement}
 use Rattle.door.proofs.part.Tie as tie
 
 returns : tie.Need-returns
-returns c = refused-promise (c .before .before .admit .ensures) (c .if1 .taken) (λ e. refl) (λ e. refl)
+returns c = refused-tells (c .before .before .admit .ensures) (λ _. nowhere) (c .if1 .taken) refl
 
 part-requires : tie.Need-part-requires
 part-requires c κs = some-ready (c .before .before .admit .ensures) (c .if1 .left)

@@ -1,15 +1,11 @@
 -- `remove` meets its contract: refused by the check's number with no word changed, or what the call on the bag does.
-use mathlib.Core.Path.{refl, ap, _∙_}
 use borrow.Author.Needs.{needs}
-use Rattle.model.specs.Calls.{refused}
-use Rattle.door.proofs.Admitting.{refused-promise, held-promise, some-ready}
+use Rattle.door.proofs.Admitting.{refused-edits, held-edits, some-ready}
 use Rattle.door.proofs.remove.Statement.{statement}
 use Rattle.door.proofs.remove.Tie as tie
 
 returns : tie.Need-returns
-returns c =
-    refused-promise (c .before .before .before .admit .ensures) (c .before .if1 .taken) (λ e. (c .refuse .ensures ∙ ap refused e, refl))
-    (λ e. (c .refuse .ensures ∙ ap refused e, refl))
+returns c = refused-edits (c .before .before .before .admit .ensures) (c .before .if1 .taken) (c .refuse .ensures)
 
 remove-requires : tie.Need-remove-requires
 remove-requires c κs = some-ready (c .before .before .before .admit .ensures) (c .before .if1 .left)
@@ -17,8 +13,7 @@ remove-requires c κs = some-ready (c .before .before .before .admit .ensures) (
 returns-2 : tie.Need-returns-2
 returns-2 c =
     let b = c .before .before .before .before .before in
-    held-promise (b .before .before .admit .ensures) (b .if1 .left)
-    (λ s. let D = c .before .before .before .remove .ensures s in (D .answer, D .holds))
+    held-edits (b .before .before .admit .ensures) (b .if1 .left) (c .before .before .before .remove .ensures)
 
 pub remove-spec : {M : Type 1} → statement M
 remove-spec =

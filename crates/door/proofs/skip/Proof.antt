@@ -1,13 +1,13 @@
 -- `skip` meets its contract: refused it keeps its position, else what the call on the bag tells.
-use mathlib.Core.Path.{ap}
+use mathlib.Core.Path.{refl}
 use borrow.Author.Needs.{needs}
 use Rattle.model.specs.Calls.{stays}
-use Rattle.door.proofs.Admitting.{refused-promise, held-promise, some-ready}
+use Rattle.door.proofs.Admitting.{refused-tells, held-promise, some-ready}
 use Rattle.door.proofs.skip.Statement.{statement}
 use Rattle.door.proofs.skip.Tie as tie
 
 returns : tie.Need-returns
-returns c = refused-promise (c .before .before .admit .ensures) (c .if1 .taken) (λ e. ap (stays _) e) (λ e. ap (stays _) e)
+returns c = refused-tells (c .before .before .admit .ensures) (stays _) (c .if1 .taken) refl
 
 skip-requires : tie.Need-skip-requires
 skip-requires c κs = some-ready (c .before .before .admit .ensures) (c .if1 .left)
