@@ -7,11 +7,11 @@ use native.Mathlib.Omega.{arith}
 use native.Mathlib.Decide.{decLt}
 use lib.ListN.{length, getD, set}
 use Rattle.model.specs.declared.Answer.{Answer}
-use Rattle.model.specs.Tree.{replace, Root, bare, rooted, Bag, listOf, rootIds, bagGet, bagReplace, levelsOf}
+use Rattle.model.specs.Tree.{Tree, replace, Root, Bag, rootIds, bagGet, bagReplace, levelsOf}
 use Rattle.model.specs.Calls.{refused, gives, lengthOf, Outcome, outcome, insertCall, replaceCall, removeCall}
 use Rattle.model.specs.Insert.{needed, bagInsert}
 use Rattle.model.specs.Remove.{bagRemove}
-use Rattle.model.proofs.Nodes.{same-id, flat-length}
+use Rattle.model.proofs.Nodes.{same-id}
 use Rattle.model.proofs.Get.{replace-law}
 use Rattle.model.proofs.Calls.{insert-full, insert-done, replace-done, remove-done}
 use Rattle.model.proofs.Bags.{bag-replace, bag-insert, bag-remove}
@@ -22,7 +22,7 @@ use Rattle.pool.specs.Chain.{Untouched}
 use Rattle.pool.proofs.Whole.{holds-parts, parts-holds, unique}
 use Rattle.pool.proofs.Frame.{chain-inside, chain-frame}
 use Rattle.tree.specs.declared.Known.{Known}
-use Rattle.tree.specs.Stands.{knownOf, BagStands}
+use Rattle.tree.specs.Stands.{knownOf}
 use Rattle.tree.specs.Lookup.{Has, Replaced}
 use Rattle.insertion.specs.declared.Placed.{Placed}
 use Rattle.insertion.specs.Ready.{BagReady, Inserts}
@@ -31,7 +31,7 @@ use Rattle.removal.specs.Ready.{BagHas, BagRemoves}
 use Rattle.calls.specs.declared.Done.{Done}
 use Rattle.calls.specs.Does.{Ready, Does}
 use Rattle.calls.proofs.Bags.{holds-stands, lawful-edited, became-holds}
-use Rattle.calls.proofs.Reading.{has}
+use Rattle.calls.proofs.Reading.{root-of, root-has}
 
 -- what a call is on a bag, and a pool that holds what it leaves
 pub does : {w′ : List ℕ} (call : Bag → Outcome) (b : Bag) (o : Outcome) → call b ≡ o → (r : Done) → r .answer ≡ o .answer
@@ -56,25 +56,21 @@ module _ {w w′ : List ℕ} {k : Known} (s : Ready w k) (i x old : ℕ) (l : i 
     chain : getD w′ chainWord 0 ≡ getD w chainWord 0
 
   left : Left (s .bag)
-  unfolding bagGet bagReplace rootId levelsOf listOf rootIds has
+  unfolding bagGet bagReplace rootId levelsOf rootIds
   left =
-      go (s .bag .root) (s .bag .free) (holds-stands (s .holds)) l
-      (subst (λ (k : Known). (q : Has w (k .levels) (k .root) i) → Replaced w w′ (k .levels) (q .stands .tree) i x old) (s .is) R)
-    where
-      go : (r : Root) (f : List ℕ) → (B : BagStands w (record { root = r; free = f })) → i < length (listOf r)
-          → ((q : Has w (levelsOf r) (rootId r) i) → Replaced w w′ (levelsOf r) (q .stands .tree) i x old) → Left (record { root = r; free = f })
-      go bare f B l R = absurd (omega arith)
-      go (rooted h t) f B l R =
-          let q = R (has w i (record { root = rooted h t; free = f }) B l) in
-          let M = replace-law h t (B .fit .fit) i x (omega (arith, flat-length h t (B .fit .fit))) in
-          record {
-            given = q .given;
-            known = ap (λ (j : ℕ). record { root = j; levels = h; free = length f }) (same-id h (replace h t i x) t (M .nodes));
-            free = refl;
-            tree = q .at;
-            untouched = q .untouched;
-            chain = q .chain;
-          }
+      let Q = root-of s i l in
+      let h : ℕ = k .levels in
+      let t : Tree h = Q .tree in
+      let q = R (root-has s i l) in
+      let M = replace-law h t (Q .owns .fit) i x (omega (arith, l, Q .long)) in
+      subst (λ (r : Root). Left (record { root = r; free = s .bag .free })) (sym (Q .is)) (record {
+        given = q .given;
+        known = ap (λ (j : ℕ). record { root = j; levels = h; free = length (s .bag .free) }) (same-id h (replace h t i x) t (M .nodes));
+        free = refl;
+        tree = q .at;
+        untouched = q .untouched;
+        chain = q .chain;
+      })
 
   pub replace-does : (a : Answer) → a ≡ gives old → Does (replaceCall i x) (s .bag) (record { answer = a; known = k }) w′
   replace-does a e =

@@ -1,28 +1,30 @@
 -- What is read of the bag that a pool holds, from what is known of it.
-use mathlib.Core.Path.{_≡_, refl, sym, ap, subst, _∙_}
+use mathlib.Core.Path.{_≡_, sym, ap, subst, _∙_}
 use mathlib.Core.List.{List}
-use Prim.Native.Nat.{ℕ, _+_, _-_, _^_, _≤_, _<_}
+use mathlib.Core.Logic.{_≢_}
+use Prim.Native.Nat.{ℕ, _+_, _-_, _≤_, _<_}
 use native.Mathlib.Decide.{decLt}
 use native.Mathlib.Omega.{arith}
 use borrow.Author.Tests.{le-leb, lt-leb}
-use lib.ListN.{length, getD, take, drop}
+use lib.ListN.{length, getD}
 use lib.Seq.{ext-getD}
 use Rattle.lists.specs.Lists.{count}
 use Rattle.model.specs.declared.Found.{Found}
 use Rattle.model.specs.declared.Stretch.{Stretch}
-use Rattle.model.specs.Tree.{get, Root, bare, rooted, Bag, listOf, rootIds, bagGet, levelsOf}
+use Rattle.model.specs.Tree.{get, Root, bare, rooted, Bag, listOf, bagGet}
 use Rattle.model.specs.Fit.{FitRoot}
 use Rattle.model.specs.Calls.{gives, lengthOf, equalCall}
 use Rattle.lists.proofs.Same.{same-self, same-other}
 use Rattle.model.proofs.Bags.{bag-get}
 use Rattle.model.proofs.Nodes.{flat-length}
-use Rattle.pool.specs.Layout.{nodeWords, start, rootId}
-use Rattle.pool.specs.Parts.{Inside, RootAt}
-use Rattle.pool.proofs.Store.{block-in}
+use Rattle.pool.specs.Layout.{start}
+use Rattle.pool.specs.Parts.{Inside, RootAt, lengthAt}
 use Rattle.pool.proofs.Node.{at-length}
 use Rattle.tree.specs.declared.Known.{Known}
 use Rattle.tree.specs.Stands.{BagStands}
 use Rattle.tree.specs.Lookup.{Has}
+use Rattle.tree.proofs.Edits.{owns-stands}
+use Rattle.tree.proofs.Rooting.{Rooted, is-rooted, is-bare, not-bare}
 use Rattle.calls.specs.Does.{Ready}
 use Rattle.calls.specs.Part.{nowhere, spanOf, rootSpan, partCall}
 use Rattle.model.specs.Calls.{stretch}
@@ -30,72 +32,44 @@ use Rattle.model.proofs.Spans.{stretch-law}
 use Rattle.pool.proofs.Frame.{at-inside}
 use Rattle.calls.proofs.Bags.{holds-stands}
 
--- ---- the root, by its id
-
-module _ (w : List ℕ) where
-  none : (r : Root) → RootAt w r → rootId r ≡ 0 → 0 ≡ length (listOf r)
-  unfolding rootId listOf
-  none bare A e = refl
-  none (rooted h t) A e = absurd (omega (arith, A .here .inside .some))
-
-  inside : (r : Root) → RootAt w r → (rootId r ≡ 0 → ⊥) → Inside w (rootId r)
-  unfolding rootId
-  inside bare A n = absurd (n refl)
-  inside (rooted h t) A n = A .here .inside
-
-  long : (r : Root) → RootAt w r → FitRoot r → (rootId r ≡ 0 → ⊥) → (a n : ℕ) → a ≡ start (rootId r)
-      → n ≡ getD (take (a + nodeWords - a) (drop a w)) 1 0 → n ≡ length (listOf r)
-  unfolding rootId listOf
-  long bare A F z a n e f = absurd (z refl)
-  long (rooted h t) A F z a n e f = f ∙ rw (block-in w a (t .id) e) (at-length w h t (A .here) ∙ sym (flat-length h t (F .fit)))
-
-  unfoldable pub has : (i : ℕ) (b : Bag) → BagStands w b → i < lengthOf b → Has w (levelsOf (b .root)) (rootId (b .root)) i
-  unfolding rootId levelsOf listOf rootIds
-  has i b B l = go (b .root) (B .tree) (B .fit) (λ k. omega (arith, B .once k)) (B .small) l
-    where
-      go : (r : Root) → RootAt w r → FitRoot r → ((k : ℕ) → count k (rootIds r) ≤ 1) → length (listOf r) < 2 ^ 32 → i < length (listOf r)
-          → Has w (levelsOf r) (rootId r) i
-      go bare A F o s l = absurd (omega arith)
-      go (rooted h t) A F o s l =
-          let e = flat-length h t (F .fit) in
-          record { stands = record { tree = t; here = refl; at = A; fit = F; once = o; small = omega arith }; below = omega arith }
-
--- ---- what is known tells it
+-- ---- the root
 
 module _ {w : List ℕ} {known : Known} (s : Ready w known) where
   stands : BagStands w (s .bag)
   stands = holds-stands (s .holds)
 
-  root-is : known .root ≡ rootId (s .bag .root)
-  root-is = ap (λ (k : Known). k .root) (s .is)
-
   pub len-none : known .root ≡ 0 → 0 ≡ lengthOf (s .bag)
-  len-none e = none w (s .bag .root) (stands .tree) (sym root-is ∙ e)
+  unfolding listOf
+  len-none e = sym (ap (λ (r : Root). length (listOf r)) (is-bare stands (s .is) e))
 
-  module _ (n : known .root ≡ 0 → ⊥) where
-    some : rootId (s .bag .root) ≡ 0 → ⊥
-    some e = n (root-is ∙ e)
+  module _ (n : known .root ≢ 0) where
+    R : Rooted w known (s .bag)
+    R = is-rooted stands (s .is) (not-bare stands (s .is) n)
 
     pub root-inside : Inside w (known .root)
-    root-inside = rw root-is (inside w (s .bag .root) (stands .tree) some)
+    root-inside = subst (Inside w) (R .here) (R .owns .at .here .inside)
 
-    pub len-root : (a m : ℕ) → a ≡ start (known .root) → m ≡ getD (take (a + nodeWords - a) (drop a w)) 1 0 → m ≡ lengthOf (s .bag)
-    len-root a m e f = long w (s .bag .root) (stands .tree) (stands .fit) some a m (e ∙ ap start root-is) f
+    pub len-root : (m : ℕ) → m ≡ lengthAt w (known .root) → m ≡ lengthOf (s .bag)
+    len-root m e =
+        e ∙ sym (ap (lengthAt w) (R .here)) ∙ at-length w (known .levels) (R .tree) (R .owns .at .here) ∙ sym (R .long)
 
-  pub root-has : (i : ℕ) → i < lengthOf (s .bag) → Has w (known .levels) (known .root) i
-  root-has i l = rw (s .is) (has w i (s .bag) stands l)
+  -- there is one where the list has an index
+  module _ (i : ℕ) (l : i < lengthOf (s .bag)) where
+    pub root-of : Rooted w known (s .bag)
+    unfolding listOf
+    root-of = is-rooted stands (s .is) (λ e. absurd (omega (arith, l, ap (λ (r : Root). length (listOf r)) e)))
 
-  pub root-got : (i : ℕ) → i < lengthOf (s .bag) → (f : Found)
-      → ((q : Has w (known .levels) (known .root) i) → f ≡ get (known .levels) (q .stands .tree) i) → f ≡ bagGet (s .bag) i
-  unfolding bagGet rootId levelsOf listOf has
-  root-got i l f G =
-      go (s .bag .root) (s .bag .free) stands l
-      (subst (λ (k : Known). (q : Has w (k .levels) (k .root) i) → f ≡ get (k .levels) (q .stands .tree) i) (s .is) G)
-    where
-      go : (r : Root) (free : List ℕ) → (B : BagStands w (record { root = r; free = free })) → i < length (listOf r)
-          → ((q : Has w (levelsOf r) (rootId r) i) → f ≡ get (levelsOf r) (q .stands .tree) i) → f ≡ bagGet (record { root = r; free = free }) i
-      go bare free B l G = absurd (omega arith)
-      go (rooted h t) free B l G = G (has w i (record { root = rooted h t; free = free }) B l)
+    abbrev pub root-has : Has w (known .levels) (known .root) i
+    root-has = record {
+      stands = owns-stands (root-of .owns) (root-of .here) (root-of .some);
+      below = omega (arith, l, root-of .long);
+    }
+
+    pub root-got : (f : Found) → ((q : Has w (known .levels) (known .root) i) → f ≡ get (known .levels) (q .stands .tree) i)
+        → f ≡ bagGet (s .bag) i
+    unfolding bagGet
+    root-got f G =
+        subst (λ (r : Root). f ≡ bagGet (record { root = r; free = s .bag .free }) i) (sym (root-of .is)) (G root-has)
 
 -- ---- equality
 
@@ -135,23 +109,18 @@ pub record Stood (w : List ℕ) (b : Bag) (i : ℕ) (q : Stretch) : Type 0 where
 
 pub stood : {w : List ℕ} {known : Known} (s : Ready w known) (i : ℕ) → i < lengthOf (s .bag) → (q : Stretch)
     → ((z : Has w (known .levels) (known .root) i) → q ≡ stretch (known .levels) (z .stands .tree) i) → Stood w (s .bag) i q
-unfolding rootId levelsOf listOf rootSpan has
-stood {w} s i l q Q =
-    go (s .bag .root) (s .bag .free) (stands s) l
-    (subst (λ (k : Known). (z : Has w (k .levels) (k .root) i) → q ≡ stretch (k .levels) (z .stands .tree) i) (s .is) Q)
-  where
-    go : (r : Root) (free : List ℕ) → (B : BagStands w (record { root = r; free = free })) → i < length (listOf r)
-        → ((z : Has w (levelsOf r) (rootId r) i) → q ≡ stretch (levelsOf r) (z .stands .tree) i) → Stood w (record { root = r; free = free }) i q
-    go bare free B l Q = absurd (omega arith)
-    go (rooted h t) free B l Q =
-        let e : q ≡ stretch h t i = Q (has w i (record { root = rooted h t; free = free }) B l) in
-        let S = stretch-law h t (B .fit .fit) i (omega (arith, flat-length h t (B .fit .fit))) in
-        record {
-          inside = rw e (at-inside w h t (B .tree) (stretch h t i .node) (S .node));
-          some = rw e (S .some);
-          few = rw e (S .few);
-          is = ap spanOf e ∙ sym (part-done (record { root = rooted h t; free = free }) i l);
-        }
+unfolding rootSpan
+stood {w} {known} s i l q Q =
+    let R = root-of s i l in
+    let h : ℕ = known .levels in
+    let e : q ≡ stretch h (R .tree) i = Q (root-has s i l) in
+    let S = stretch-law h (R .tree) (R .owns .fit) i (omega (arith, R .long)) in
+    record {
+      inside = rw e (at-inside w h (R .tree) (R .owns .at) (stretch h (R .tree) i .node) (S .node));
+      some = rw e (S .some);
+      few = rw e (S .few);
+      is = ap spanOf e ∙ sym (part-done (s .bag) i l ∙ ap (λ (r : Root). rootSpan r i) (R .is));
+    }
 
 -- it lies in the pool
 pub part-fits : {w : List ℕ} {b : Bag} → BagStands w b → (i : ℕ) → partCall i b .start + partCall i b .count ≤ length w

@@ -9,7 +9,6 @@ ghost use Rattle.calls.specs.Part.{partCall};
 use model::Answer;
 use model::Walked;
 use pool::ELEMS;
-use pool::NODE_WORDS;
 use pool::ROOT_WORD;
 use tree::Known;
 
@@ -67,8 +66,7 @@ pub fn len(pool: &[u64], known: Known) -> u64
     if root == 0 {
         return 0;
     }
-    let a = pool::start_of(root);
-    pool::len(&pool[a..a + NODE_WORDS]) as u64
+    pool::length_at(pool, root) as u64
 }
 
 pub fn get(pool: &[u64], known: Known, index: u64) -> Answer
