@@ -24,8 +24,8 @@ use Rattle.tree.specs.Lookup.{HasElement, Swapped}
 use Rattle.tree.specs.Stands.{Owns}
 use Rattle.tree.proofs.Standing.{length-word}
 use Rattle.tree.proofs.Edits.{node-untouched, root-reshaped, owns-kid, root-apart, kid-reshaped, owns-after, reshaped-both}
-use Rattle.repair.specs.declared.Piece.{Piece}
-use Rattle.repair.specs.Pieces.{Takes, TookOut}
+use Rattle.pieces.specs.declared.Piece.{Piece}
+use Rattle.pieces.specs.Pieces.{Takes, TookOut}
 use Rattle.repair.proofs.Ends.{seats, In, seated, leaf-block}
 use Rattle.repair.proofs.Moves.{root-is}
 use Rattle.removal.specs.declared.Descent.{Descent}

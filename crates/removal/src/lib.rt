@@ -100,7 +100,7 @@ pub fn remove(pool: &mut [u64], id: usize, levels: usize, index: usize) -> Cut
         levels (s .tree) (s .free) (remove levels (s .tree) index (s .free)) r) ⌝ }
 {
     if levels == 0 {
-        let p = repair::take_out(pool, id, index, index, 1);
+        let p = pieces::take_out(pool, id, index, index, 1);
         return Cut {
             old: p.elem,
             freed: 0,

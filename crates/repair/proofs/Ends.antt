@@ -18,8 +18,8 @@ use Rattle.model.proofs.Nodes.{most}
 use Rattle.pool.specs.Layout.{slots, nodeBlock, idOf, rootBlock}
 use Rattle.pool.specs.Parts.{Inside, Stored, At}
 use Rattle.pool.proofs.Node.{at-length}
-use Rattle.repair.specs.Pieces.{Seated, lengthOr}
-use Rattle.repair.proofs.Pieces.{some-node}
+use Rattle.pieces.specs.Pieces.{Seated, lengthOr}
+use Rattle.pieces.proofs.Pieces.{some-node}
 
 -- ---- lists: the last element out, one more in at the end, and the element at an end by itself
 

@@ -20,13 +20,13 @@ use Rattle.pool.proofs.Blocks.{length-nodeBlock, length-rootBlock}
 use Rattle.tree.specs.Lookup.{HasKid}
 use Rattle.tree.specs.Stands.{Owns, Reshaped}
 use Rattle.tree.proofs.Edits.{KidAt, tree-at}
-use Rattle.repair.specs.declared.Piece.{Piece}
-use Rattle.repair.specs.declared.End.{End}
+use Rattle.pieces.specs.declared.Piece.{Piece}
+use Rattle.pieces.specs.declared.End.{End}
 use Rattle.repair.specs.Ready.{PairReady, Few, LeftLends, RightLends}
-use Rattle.repair.specs.Pieces.{Takes, TookOut, Joins, lengthOr, Lends, Lent}
+use Rattle.pieces.specs.Pieces.{Takes, TookOut, Joins, lengthOr, Lends, Lent}
 use Rattle.repair.proofs.Ends.{seats, seats-length, In, seated, slot-inside, join-block}
 use Rattle.repair.proofs.Ends.{last-less, last-given, front-taken, first-less, first-given, back-taken}
-use Rattle.repair.proofs.Lending.{seated-kept}
+use Rattle.pieces.proofs.Lending.{seated-kept}
 use Rattle.repair.proofs.Pairing.{pair-is, Pair, top-in, left-in, right-in, pair-sizes, pair-ids, merged-ids}
 use Rattle.repair.proofs.Pairing.{left-below, right-below, left-right, right-in-use, left-kids, right-kids, pair-chain, pair-rebuilt}
 

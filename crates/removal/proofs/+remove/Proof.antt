@@ -4,7 +4,7 @@ use native.Mathlib.Omega.{arith}
 use borrow.Author.Needs.{needs}
 use borrow.Fn.Kinds.{In}
 use borrow.Fn.PlainCycle.{Measures, is, falls, and}
-use Rattle.repair.proofs.take_out.Reads as take-out
+use Rattle.pieces.proofs.take_out.Reads as take-out
 use Rattle.removal.proofs.Rising.{at-leaf, cut-leaf, to-go, to-remove, to-rise, cut-below}
 use Rattle.removal.proofs.remove.Reads as own
 use Rattle.removal.proofs.remove.Kinds as kinds

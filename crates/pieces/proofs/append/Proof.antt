@@ -9,10 +9,10 @@ use denote.Ref.{now}
 use lib.ListN.{length, length-set}
 use Rattle.pool.specs.Layout.{nodeWords, start}
 use Rattle.pool.proofs.Block.{runs-apart}
-use Rattle.repair.specs.Pieces.{Joins}
-use Rattle.repair.proofs.Pieces.{Bounds, bounds, appended}
-use Rattle.repair.proofs.append.Statement.{statement}
-use Rattle.repair.proofs.append.Tie as tie
+use Rattle.pieces.specs.Pieces.{Joins}
+use Rattle.pieces.proofs.Pieces.{Bounds, bounds, appended}
+use Rattle.pieces.proofs.append.Statement.{statement}
+use Rattle.pieces.proofs.append.Tie as tie
 
 -- after both counts and both sizes were read
 known : (c : tie.After-length-at2) →

@@ -10,8 +10,8 @@ use Rattle.pool.specs.Parts.{Inside, Stored, lengthAt}
 use Rattle.pool.specs.Chain.{Untouched}
 use Rattle.tree.specs.Node.{Node}
 use Rattle.tree.specs.Lookup.{HasElement}
-use Rattle.repair.specs.declared.Piece.{Piece}
-use Rattle.repair.specs.declared.End.{End}
+use Rattle.pieces.specs.declared.Piece.{Piece}
+use Rattle.pieces.specs.declared.End.{End}
 
 -- a node with one child slot more than elements; in a leaf these slots are 0
 pub record Seated (w : List ℕ) (k : ℕ) : Type 0 where

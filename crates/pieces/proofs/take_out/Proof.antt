@@ -1,4 +1,4 @@
--- `put_in` meets its contract: the two gaps opened take the piece in.
+-- `take_out` meets its contract: the two gaps closed leave the lists without the piece.
 use mathlib.Core.Path.{_≡_}
 use native.Mathlib.Omega.{arith}
 use borrow.Author.Needs.{needs}
@@ -6,9 +6,9 @@ use denote.Ref.{now}
 use lib.ListN.{length, getD, length-set}
 use Rattle.pool.proofs.Store.{part}
 use Rattle.tree.proofs.Standing.{lent-long, lent-count, lent-length}
-use Rattle.repair.proofs.Pieces.{put-in}
-use Rattle.repair.proofs.put_in.Statement.{statement}
-use Rattle.repair.proofs.put_in.Tie as tie
+use Rattle.pieces.proofs.Pieces.{took-out}
+use Rattle.pieces.proofs.take_out.Statement.{statement}
+use Rattle.pieces.proofs.take_out.Tie as tie
 
 -- what the code reads, and the length of what is lent
 known : (c : tie.After-start-of) →
@@ -23,25 +23,25 @@ known c =
 returns : tie.Need-returns
 returns c s =
     let b = c .before .before .before .before in
-    put-in s _ (b .before .before .before .before .before .before .before .before .before .start-of .ensures) _ _ _ _
-    (b .before .before .before .before .open-gap .ensures) (b .open-gap2 .ensures)
+    took-out s _ (b .before .before .before .before .before .before .before .before .before .start-of .ensures) _ _ _ _
+    (b .before .before .before .before .close-gap .ensures) (b .close-gap2 .ensures)
 
-pub put-in-spec : {M : Type 1} → statement M
-put-in-spec =
+pub take-out-spec : {M : Type 1} → statement M
+take-out-spec =
     tie.close
     (tie.spec (λ c κs. search needs) (λ c. search needs) (λ c. search needs) (λ c. search needs) (λ c. search needs) (λ c. search needs)
     (λ c. search needs) (λ c. search needs) (λ c. search needs) (λ c. omega (arith, known (c .before .before .before .before)))
     (λ c κs. omega (arith, known (c .before .before .before .before))) (λ c. search needs)
     (λ c. omega (arith, known (c .before .before .before .before .before .before .before .before)))
     (λ c. omega (arith, known (c .before .before .before .before .before .before .before .before)))
-    (λ c κs. omega (arith, known (c .before .before .before .before .before .before .before .before), c .before .before .before .open-gap .kept))
+    (λ c κs. omega (arith, known (c .before .before .before .before .before .before .before .before), c .before .before .before .close-gap .kept))
     (λ c. omega (arith, known (c .before .before .before .before .before .before .before .before .before .before .before))) (λ c. search needs)
     (λ c. omega (arith, known (c .before .before .before .before .before .before .before .before .before .before .before)))
     (λ c. simp length-set (omega (
       arith,
       known
           (c .before .before .before .before .before .before .before .before .before .before .before),
-      c .before .before .open-gap2 .kept,
-      c .before .before .before .before .before .before .open-gap .kept,
+      c .before .before .close-gap2 .kept,
+      c .before .before .before .before .before .before .close-gap .kept,
     )))
     (λ c. search needs) returns)

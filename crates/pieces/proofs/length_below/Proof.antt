@@ -1,8 +1,8 @@
 -- `length_below` meets its contract: the slot holds 0, or a node whose length is read.
 use borrow.Author.Needs.{needs}
-use Rattle.repair.proofs.Pieces.{below-none, below-inside, below-some}
-use Rattle.repair.proofs.length_below.Statement.{statement}
-use Rattle.repair.proofs.length_below.Tie as tie
+use Rattle.pieces.proofs.Pieces.{below-none, below-inside, below-some}
+use Rattle.pieces.proofs.length_below.Statement.{statement}
+use Rattle.pieces.proofs.length_below.Tie as tie
 
 pub length-below-spec : {M : Type 1} → statement M
 length-below-spec =

@@ -14,9 +14,9 @@ use Rattle.pool.proofs.Frame.{stored-untouched, untouched-both, Wrote, wrote}
 use Rattle.tree.specs.Node.{Node}
 use Rattle.tree.specs.Lookup.{HasElement, Swapped}
 use Rattle.tree.proofs.Edits.{node-untouched}
-use Rattle.repair.specs.declared.Piece.{Piece}
-use Rattle.repair.specs.declared.End.{End}
-use Rattle.repair.specs.Pieces.{Seated, Takes, TookOut, Puts, putIn, lengthOr, HasSlot, Lends, Lent}
+use Rattle.pieces.specs.declared.Piece.{Piece}
+use Rattle.pieces.specs.declared.End.{End}
+use Rattle.pieces.specs.Pieces.{Seated, Takes, TookOut, Puts, putIn, lengthOr, HasSlot, Lends, Lent}
 
 -- a node after an edit of others
 abbrev pub seated-kept : {w w′ own : List ℕ} {k : ℕ} → Untouched w w′ own → count k own ≡ 0 → Seated w k → Seated w′ k

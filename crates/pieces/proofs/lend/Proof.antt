@@ -1,9 +1,9 @@
 -- `lend` meets its contract: each step leaves the other two nodes as they were.
 use native.Mathlib.Omega.{arith}
 use borrow.Author.Needs.{needs}
-use Rattle.repair.proofs.Lending.{lend-few, lend-take, lend-swap, lend-put, lent}
-use Rattle.repair.proofs.lend.Statement.{statement}
-use Rattle.repair.proofs.lend.Tie as tie
+use Rattle.pieces.proofs.Lending.{lend-few, lend-take, lend-swap, lend-put, lent}
+use Rattle.pieces.proofs.lend.Statement.{statement}
+use Rattle.pieces.proofs.lend.Tie as tie
 
 returns : tie.Need-returns
 returns c s =

@@ -19,7 +19,7 @@ use Rattle.pool.proofs.Slots.{parts}
 use Rattle.pool.proofs.Areas.{Area, elem-area, kid-area, length-parts, area-word, area-read, area-append, area-open, area-close}
 use Rattle.tree.specs.Node.{Node}
 use Rattle.tree.proofs.Standing.{node-count, node-size, lent, lent-count, lent-length, lent-kid}
-use Rattle.repair.specs.Pieces.{Takes, TookOut, Puts, putIn, Joins, lengthOr, HasSlot}
+use Rattle.pieces.specs.Pieces.{Takes, TookOut, Puts, putIn, Joins, lengthOr, HasSlot}
 
 -- a node has the length that its words say
 pub some-node : (w : List ℕ) (k : ℕ) → k ≢ 0 → lengthAt w k ≡ lengthOr w k
