@@ -1,12 +1,12 @@
 // The door's calls under the names that C and Rust link. A lent slice passes as a pointer and its number of words.
 ghost use Rattle.model.specs.Calls.{refused, checkCall, lenCall, getCall, skipCall, stays, insertCall, pushCall, replaceCall, removeCall};
-ghost use Rattle.calls.specs.Part.{nowhere, partCall};
+ghost use Rattle.views.specs.Part.{nowhere, partCall};
 ghost use Rattle.door.specs.Promise.{Edits, Tells, Compares, Formats};
 ghost use Rattle.batch.specs.Batch.{Batches};
-use calls::Span;
 use commands::Ran;
 use model::Answer;
 use model::Walked;
+use views::Span;
 
 #[no_mangle]
 pub extern "C" fn bag_format(pool: &mut [u64]) -> Answer

@@ -10,7 +10,7 @@ use Rattle.pool.specs.Sound.{Holds, Sound, Sized}
 use Rattle.pool.proofs.Read.{one-pool}
 use Rattle.pool.proofs.Sized.{holds-sized}
 use Rattle.pool.proofs.Decide.{sized?, sound?}
-use Rattle.calls.specs.Part.{nowhere, partCall}
+use Rattle.views.specs.Part.{nowhere, partCall}
 use Rattle.door.proofs.Kept.{Lawfully, left-words, edits-held, tells-held}
 use Rattle.door.specs.Promise.{Edits, Tells, Compares, Formats, Windows}
 

@@ -10,8 +10,8 @@ use Rattle.words.specs.Words.{run}
 use Rattle.pool.specs.Layout.{words}
 use Rattle.pool.specs.Sound.{Holds, Sound, Sized, nodesIn}
 use Rattle.tree.specs.Stands.{knownOf}
-use Rattle.calls.specs.declared.Span.{Span}
-use Rattle.calls.specs.Part.{nowhere, partCall}
+use Rattle.views.specs.declared.Span.{Span}
+use Rattle.views.specs.Part.{nowhere, partCall}
 use Rattle.door.specs.declared.Admitted.{Admitted}
 
 -- what holds of the result if the length does not fit (4), if the pool is not sound (1), and if it holds the bag b

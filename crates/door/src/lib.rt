@@ -1,13 +1,13 @@
 // The calls that firmware makes, on any words at all. Each checks the pool in full, and refuses by 01's numbers.
 ghost use Rattle.model.specs.Calls.{refused, checkCall, lenCall, getCall, skipCall, stays, insertCall, pushCall, replaceCall, removeCall};
-ghost use Rattle.calls.specs.Part.{nowhere, partCall};
+ghost use Rattle.views.specs.Part.{nowhere, partCall};
 ghost use Rattle.door.specs.Promise.{Edits, Tells, unknown, admitted, Compares, Formats, Windows};
-use calls::Span;
 use calls::give;
 use calls::refuse;
 use model::Answer;
 use model::Walked;
 use tree::Known;
+use views::Span;
 
 // A pool that was admitted: the number that refuses it, or 0 and what is known of its bag.
 pub struct Admitted {
@@ -136,7 +136,7 @@ pub fn skip(pool: &[u64], position: u64, m: u64) -> Walked
             position,
         };
     }
-    calls::skip(pool, o.known, position, m)
+    views::skip(pool, o.known, position, m)
 }
 
 pub fn equal(a: &[u64], b: &[u64]) -> Answer
@@ -150,7 +150,7 @@ pub fn equal(a: &[u64], b: &[u64]) -> Answer
     if p.number != 0 {
         return refuse(p.number);
     }
-    calls::equal(a, o.known, b, p.known)
+    views::equal(a, o.known, b, p.known)
 }
 
 // Where the window lies in the pool, and how many words it has; nowhere where it is refused.
@@ -161,7 +161,7 @@ pub fn part(pool: &[u64], index: u64) -> Span
     if o.number != 0 {
         return Span { start: 0, count: 0 };
     }
-    calls::part(pool, o.known, index)
+    views::part(pool, o.known, index)
 }
 
 // The stretch of the pool that holds the element at an index and those after it in the same leaf.

@@ -1,7 +1,7 @@
 -- `part` meets its contract: nowhere if refused, else what the call on the bag tells.
 use mathlib.Core.Path.{refl}
 use borrow.Author.Needs.{needs}
-use Rattle.calls.specs.Part.{nowhere}
+use Rattle.views.specs.Part.{nowhere}
 use Rattle.door.proofs.Admitting.{refused-tells, held-promise, some-ready}
 use Rattle.door.proofs.part.Statement.{statement}
 use Rattle.door.proofs.part.Tie as tie

@@ -7,10 +7,10 @@ use borrow.Author.Needs.{needs}
 use denote.Ref.{now}
 use lib.ListN.{length, take, drop}
 use Rattle.words.specs.Words.{run}
-use Rattle.calls.specs.declared.Span.{Span}
-use Rattle.calls.specs.Part.{nowhere, partCall}
+use Rattle.views.specs.declared.Span.{Span}
+use Rattle.views.specs.Part.{nowhere, partCall}
 use Rattle.calls.proofs.Bags.{holds-stands}
-use Rattle.calls.proofs.Reading.{part-fits}
+use Rattle.views.proofs.Views.{part-fits}
 use Rattle.door.specs.Promise.{Tells}
 use Rattle.door.proofs.One.{decided, tells-one}
 use Rattle.door.proofs.window.Statement.{statement}

@@ -5,10 +5,11 @@ use native.Mathlib.Omega.{arith}
 use borrow.Author.Needs.{needs}
 use denote.Ref.{now}
 use Rattle.model.specs.Calls.{lengthOf}
 use Rattle.calls.specs.Does.{Ready}
-use Rattle.calls.proofs.Reading.{root-has, part-beyond, Stood, stood}
-use Rattle.calls.proofs.part.Statement.{statement}
-use Rattle.calls.proofs.part.Tie as tie
+use Rattle.calls.proofs.Reading.{root-has}
+use Rattle.views.proofs.Views.{part-beyond, Stood, stood}
+use Rattle.views.proofs.part.Statement.{statement}
+use Rattle.views.proofs.part.Tie as tie
 
 below : (c : tie.Else1) (s : Ready (now (c .before .before .before .args .pool)) (c .before .before .before .args .known))
     → c .before .before .before .args .index < lengthOf (s .bag)

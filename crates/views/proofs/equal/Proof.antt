@@ -11,10 +11,11 @@ use Rattle.model.specs.Tree.{get, listOf}
 use Rattle.model.specs.Calls.{lengthOf}
 use Rattle.tree.specs.declared.Known.{Known}
 use Rattle.tree.specs.Lookup.{Has}
 use Rattle.calls.specs.Does.{Ready}
-use Rattle.calls.proofs.Reading.{root-has, root-element, equal-differ, equal-same}
-use Rattle.calls.proofs.equal.Statement.{statement}
-use Rattle.calls.proofs.equal.Tie as tie
+use Rattle.calls.proofs.Reading.{root-has}
+use Rattle.views.proofs.Views.{root-element, equal-differ, equal-same}
+use Rattle.views.proofs.equal.Statement.{statement}
+use Rattle.views.proofs.equal.Tie as tie
 
 -- two pools' lists are n long and agree up to i
 record Agree (a : List ℕ) (x : Known) (b : List ℕ) (y : Known) (n i : ℕ) : Type 0 where

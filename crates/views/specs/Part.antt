@@ -6,7 +6,7 @@ use Rattle.model.specs.declared.Stretch.{Stretch}
 use Rattle.model.specs.Tree.{Root, bare, rooted, Bag}
 use Rattle.model.specs.Calls.{lengthOf, stretch}
 use Rattle.pool.specs.Layout.{start}
-use Rattle.calls.specs.declared.Span.{Span}
+use Rattle.views.specs.declared.Span.{Span}
 
 abbrev pub nowhere : Span
 nowhere = record { start = 0; count = 0 }

@@ -7,10 +7,10 @@ use denote.Ref.{now}
 use Rattle.model.specs.declared.Found.{Found}
 use Rattle.model.specs.Calls.{lengthOf}
 use Rattle.model.proofs.Calls.{skip-beyond, skip-done}
 use Rattle.calls.specs.Does.{Ready}
 use Rattle.calls.proofs.Reading.{root-has, root-got}
-use Rattle.calls.proofs.skip.Statement.{statement}
-use Rattle.calls.proofs.skip.Tie as tie
+use Rattle.views.proofs.skip.Statement.{statement}
+use Rattle.views.proofs.skip.Tie as tie
 
 below : (c : tie.Else2) (s : Ready (now (c .before .before .before .before .args .pool)) (c .before .before .before .before .args .known))
     → c .before .before .before .before .args .position + c .before .before .before .before .args .m < lengthOf (s .bag)
