@@ -52,6 +52,9 @@ countAt w k = getD (block w k) 0 0
 abbrev pub lengthAt : List ℕ → ℕ → ℕ
 lengthAt w k = getD (block w k) 1 0
 
+abbrev pub kidAt : List ℕ → ℕ → ℕ → ℕ
+kidAt w k c = getD (block w k) (33 + c) 0
+
 abbrev pub elemsAt : List ℕ → ℕ → List ℕ
 elemsAt w k = run (block w k) 2 (countAt w k)
 
@@ -63,11 +66,11 @@ unfolding block run
 treeAt w zero k = record { id = k; elems = elemsAt w k; kids = [] }
 treeAt w (suc h) k = record { id = k; elems = elemsAt w k; kids = map (treeAt w h) (kidIdsAt w k) }
 
--- the inner levels from a node on: word 33 is its first child, 0 in a leaf
+-- the inner levels from a node on: in a leaf the word of the first child is 0
 unfoldable pub levelsAt : ℕ → List ℕ → ℕ → ℕ
 unfolding block run
 levelsAt zero w k = 0
-levelsAt (suc n) w k = elim (getD (block w k) 33 0) [ zero ↦ 0 | suc c ↦ suc (levelsAt n w (suc c)) ]
+levelsAt (suc n) w k = elim (kidAt w k 0) [ zero ↦ 0 | suc c ↦ suc (levelsAt n w (suc c)) ]
 
 unfoldable pub rootAt : ℕ → List ℕ → ℕ → Root
 unfolding levelsAt treeAt

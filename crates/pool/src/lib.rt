@@ -8,7 +8,7 @@ ghost use Rattle.lists.specs.Lists.{count};
 ghost use Rattle.model.specs.Tree.{findIn, empty};
 ghost use Rattle.pool.specs.Layout.{nodeWords, start, words};
 ghost use Rattle.pool.specs.Sound.{nodesIn, fits, Sized};
-ghost use Rattle.pool.specs.Parts.{Inside, ChainAt, countAt, lengthAt};
+ghost use Rattle.pool.specs.Parts.{Inside, ChainAt, countAt, lengthAt, kidAt};
 ghost use Rattle.pool.specs.Chain.{Free, Took, Gave};
 ghost use Rattle.pool.specs.Find.{Inner, kidLengths};
 use model::Place;
@@ -85,6 +85,16 @@ pub fn length_at(pool: &[u64], k: usize) -> usize
 {
     let a = start_of(k);
     len(&pool[a..a + NODE_WORDS])
+}
+
+// The id of its child c.
+pub fn kid_at(pool: &[u64], k: usize, c: usize) -> usize
+    requires { ⌜ Inside (now pool) k ⌝ }
+    requires { ⌜ c < 32 ⌝ }
+    ensures { λ r. ⌜ r ≡ kidAt (now (pool .entry)) k c ⌝ }
+{
+    let a = start_of(k);
+    kid(&pool[a..a + NODE_WORDS], c)
 }
 
 pub fn is_leaf(node: &[u64]) -> bool

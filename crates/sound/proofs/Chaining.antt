@@ -1,7 +1,7 @@
 -- The free chain: what the walk along it has passed, and found, at each step.
 use mathlib.Core.Path.{_≡_, refl, sym, ap, ap₂, subst, _∙_}
 use mathlib.Core.List.{List, [], _∷_, _++_}
-use Prim.Native.Nat.{ℕ, zero, suc, _+_, _-_, _*_, _≤_, _<_}
+use Prim.Native.Nat.{ℕ, zero, suc, _+_, _*_, _≤_, _<_}
 use native.Mathlib.Decide.{decLt}
 use native.Mathlib.Omega.{arith}
 use lib.ListN.{length, getD, length-append}
@@ -19,11 +19,11 @@ use Rattle.pool.proofs.Node.{free-word, free-link}
 use Rattle.pool.proofs.Whole.{Within}
 use Rattle.marks.specs.Marks.{seen}
 use Rattle.marks.proofs.Laws.{seen-lt}
+use Rattle.shape.specs.Shape.{Adds, Unmet}
+use Rattle.shape.proofs.Growth.{once-all}
 use Rattle.sound.specs.declared.Part.the-variants.{Wrong, Right}
-use Rattle.sound.specs.Shape.{Adds, Unmet}
 use Rattle.sound.specs.Filled.{Clear}
 use Rattle.sound.specs.Check.{ChainFound, Chains}
-use Rattle.sound.proofs.Growth.{once-all}
 
 -- ---- one free node
 

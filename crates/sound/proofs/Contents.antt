@@ -13,15 +13,14 @@ use Rattle.lists.proofs.All.{All, nil, cons, all-concat, all-of, all-at, all-ri
 use Rattle.model.specs.Tree.{Tree, kid, none, size, ids}
 use Rattle.model.specs.Fit.{Fit}
 use Rattle.pool.specs.Layout.{headWords, nodeWords, block, nodeBlock, idOf, kidIds, rootBlock}
-use Rattle.pool.specs.Parts.{Inside, Stored, At, countAt, lengthAt, elemsAt, kidIdsAt, treeAt}
+use Rattle.pool.specs.Parts.{Inside, Stored, At, countAt, lengthAt, kidAt, elemsAt, kidIdsAt, treeAt}
 use Rattle.pool.specs.Find.{kidLengths}
 use Rattle.pool.proofs.Block.{length-block}
 use Rattle.pool.proofs.Node.{at-count, at-length, at-elem, at-link, at-leaf, at-kid, kids-read, kid-lengths}
 use Rattle.pool.proofs.Runs.{block-is}
-use Rattle.sound.specs.Shape.{kidAt, Grown, below}
-use Rattle.sound.specs.Filled.{Tells, Clear, Readable, kidsAt, AddsUp, Filled}
-use Rattle.sound.proofs.Growth.{tree-id, elems-long, ids-long, kids-of, all-kids, kids-all, ids-leaf, ids-inner, all-below}
-use Rattle.sound.proofs.Growth.{inside, here}
+use Rattle.shape.specs.Shape.{Tells, Grown, below}
+use Rattle.shape.proofs.Growth.{tree-id, elems-long, ids-long, kids-of, all-kids, kids-all, ids-leaf, ids-inner, all-below, inside, here}
+use Rattle.sound.specs.Filled.{Clear, Readable, kidsAt, AddsUp, Filled}
 
 -- ---- all numbers up to k
 
@@ -159,6 +158,13 @@ module _ (w : List ℕ) (k : ℕ) (I : Inside w k) (most : countAt w k ≤ 31) (
       ∙ rw (q, As, names w h (kidIdsAt w k))
 
 module _ (w : List ℕ) (p : ℕ) (exact : length w ≡ headWords + nodeWords * p) where
+  -- what the first pass finds of a node is enough to read it
+  pub grown-reads : (h least k : ℕ) → Grown w p h least k → Readable w k
+  grown-reads zero least k G =
+      record { inside = inside w p exact (G .0); most = G .0 .most; kids = λ n. absurd (n (G .1)) }
+  grown-reads (suc h) least k G =
+      record { inside = inside w p exact (G .0); most = G .0 .most; kids = λ n c l. inside w p exact (here h (G .1 c l)) }
+
   pub filled-at : (h least k : ℕ) → Grown w p h least k → All (Filled w) (ids h (treeAt w h k)) → At w h (treeAt w h k)
   unfolding treeAt
   filled-at zero least k G fs =

@@ -17,12 +17,12 @@ use Rattle.pool.proofs.Node.{at-leaf}
 use Rattle.pool.proofs.Read.{tree-read}
 use Rattle.marks.specs.Marks.{seen}
 use Rattle.marks.proofs.Laws.{seen-lt}
+use Rattle.shape.specs.Shape.{Tells, Ends, WellShaped, Grown, Shapes}
+use Rattle.shape.proofs.Growth.{tree-id, in-from, grown-nodes, shape-grown, shape-levels}
 use Rattle.sound.specs.declared.Part.the-variants.{Wrong, Right}
-use Rattle.sound.specs.Shape.{Ends, WellShaped, Shapes}
-use Rattle.sound.specs.Filled.{Tells, Readable, Filled}
+use Rattle.sound.specs.Filled.{Readable, Filled}
 use Rattle.sound.specs.Check.{Planted, TreeFound, Trees}
-use Rattle.sound.proofs.Growth.{tree-id, Met, grown-nodes, shape-grown, shape-levels}
-use Rattle.sound.proofs.Contents.{at-filled, filled-at}
+use Rattle.sound.proofs.Contents.{at-filled, grown-reads, filled-at}
 
 -- ---- a tree that stands in the pool is well shaped
 
@@ -90,11 +90,11 @@ module _ (w : List ℕ) (p : ℕ) (exact : length w ≡ headWords + nodeWords * 
         marked : (j : ℕ) → 1 ≤ j → seen m₁ j ≡ count j nodes
         marked j l = omega (arith, none j, M .good t .1 j l)
 
-        met : All (Met w p) nodes
-        met = grown-nodes w p exact h 1 k (shape-grown w p exact (M .good t .0))
+        grown : Grown w p h 1 k
+        grown = shape-grown w p exact (M .good t .0)
 
         pub readable : (j : ℕ) → 1 ≤ j → j ≤ p → seen m₁ j ≡ 1 → Readable w j
-        readable j l n e = counted met j (omega (arith, marked j l)) .reads
+        readable j l n e = counted (grown-nodes w p exact (Readable w) (grown-reads w p exact) h 1 k grown) j (omega (arith, marked j l))
 
         module _ (q : Bool) (T : Tells q ((j : ℕ) → 1 ≤ j → j ≤ p → seen m₁ j ≡ 1 → Filled w j)) where
           pub not-filled : q ≡ false → Trees Wrong w p m m₁
@@ -107,13 +107,13 @@ module _ (w : List ℕ) (p : ℕ) (exact : length w ≡ headWords + nodeWords * 
           planted g =
               let fs : All (Filled w) nodes =
               all-map (λ j c.
-              let v = counted met j c .within in
+              let v = in-from p j (omega (arith, M .good t .0 .once j)) in
               T .good g j (v .low) (v .high) (omega (arith, marked j (v .low), seen-lt m₁ j))) (all-counted nodes) in
               right (M .long) record {
                 root = rooted h (treeAt w h k);
                 planted = record {
                   top = is ∙ sym (tree-id w h k);
-                  at = filled-at w p exact h 1 k (shape-grown w p exact (M .good t .0)) fs;
+                  at = filled-at w p exact h 1 k grown fs;
                   fit = M .good t .0 .fit;
                   once = M .good t .0 .once;
                 };

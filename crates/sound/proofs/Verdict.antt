@@ -18,11 +18,11 @@ use Rattle.pool.proofs.Whole.{parts-holds, holds-parts}
 use Rattle.pool.proofs.Sized.{fits-of, holds-sized}
 use Rattle.pool.proofs.Read.{root-read, chain-read, one-bag}
 use Rattle.marks.specs.Marks.{seen}
+use Rattle.shape.specs.Shape.{Tells}
+use Rattle.shape.proofs.Growth.{in-from}
 use Rattle.sound.specs.declared.Part.{Part}
 use Rattle.sound.specs.declared.Part.the-variants.{Wrong, Right}
-use Rattle.sound.specs.Filled.{Tells}
 use Rattle.sound.specs.Check.{Planted, TreeFound, Trees, ChainFound, Chains, Checks}
-use Rattle.sound.proofs.Growth.{in-from}
 
 pub misfit : (w : List ℕ) → fits (length w) ≡ false → Checks w (record { number = 4; levels = 0; free = 0 })
 misfit w f = record {

@@ -9,10 +9,10 @@ use Rattle.model.specs.Fit.{FitRoot}
 use Rattle.pool.specs.Layout.{rootWord, rootId}
 use Rattle.pool.specs.Parts.{RootAt, ChainAt}
 use Rattle.pool.specs.Sound.{Holds, Sound, Sized}
+use Rattle.shape.specs.Shape.{Adds, Unmet}
 use Rattle.sound.specs.declared.Checked.{Checked}
 use Rattle.sound.specs.declared.Part.{Part}
 use Rattle.sound.specs.declared.Part.the-variants.{Wrong, Right}
-use Rattle.sound.specs.Shape.{Adds, Unmet}
 
 -- the root stands in the pool, and its nodes are among 1, 2, .. p, none twice
 pub record Planted (w : List ℕ) (p : ℕ) (t : Root) : Type 0 where

@@ -1,19 +1,13 @@
 -- The words of a tree's node besides its shape: what the second pass of the check looks at.
 use mathlib.Core.Path.{_≡_}
-use mathlib.Core.Bool.{Bool, true, false, cond}
+use mathlib.Core.Bool.{cond}
 use mathlib.Core.List.{List, [], map}
 use Prim.Native.Nat.{ℕ, _+_, _≤_, _<_}
 use lib.Dec.{eqb}
 use lib.ListN.{length, getD}
 use Rattle.lists.specs.Lists.{sum}
 use Rattle.pool.specs.Layout.{nodeWords, block}
-use Rattle.pool.specs.Parts.{Inside, countAt, lengthAt, kidIdsAt}
-use Rattle.sound.specs.Shape.{kidAt}
-
--- r says whether P
-pub record Tells (r : Bool) (P : Type 0) : Type 0 where
-  pub good : r ≡ true → P
-  pub bad : r ≡ false → P → ⊥
+use Rattle.pool.specs.Parts.{Inside, countAt, lengthAt, kidAt, kidIdsAt}
 
 -- the words from `from` up to `to` are 0
 abbrev pub Clear : List ℕ → ℕ → ℕ → Type 0

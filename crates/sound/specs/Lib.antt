@@ -1,3 +1,2 @@
-pub mod Shape
 pub mod Filled
 pub mod Check

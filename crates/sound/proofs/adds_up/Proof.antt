@@ -13,11 +13,11 @@ use Rattle.lists.proofs.Sums.{total, total-append}
 use Rattle.words.specs.Words.{run}
 use Rattle.words.proofs.Laws.{run-snoc}
 use Rattle.pool.specs.Layout.{block}
-use Rattle.pool.specs.Parts.{Inside, countAt, lengthAt, kidIdsAt}
+use Rattle.pool.specs.Parts.{Inside, countAt, lengthAt, kidAt, kidIdsAt}
 use Rattle.pool.proofs.Block.{length-block}
 use Rattle.pool.proofs.Runs.{run-append}
-use Rattle.sound.specs.Shape.{kidAt}
-use Rattle.sound.specs.Filled.{Tells, AddsUp}
+use Rattle.shape.specs.Shape.{Tells}
+use Rattle.sound.specs.Filled.{AddsUp}
 use Rattle.sound.proofs.adds_up.Statement.{statement}
 use Rattle.sound.proofs.adds_up.Tie as tie
 

@@ -15,12 +15,12 @@ use Rattle.words.specs.Words.{run}
 use Rattle.words.proofs.Laws.{run-snoc}
 use Rattle.model.specs.Tree.{ids}
 use Rattle.pool.specs.Layout.{block}
-use Rattle.pool.specs.Parts.{Inside, countAt, kidIdsAt, treeAt}
+use Rattle.pool.specs.Parts.{Inside, countAt, kidAt, kidIdsAt, treeAt}
 use Rattle.pool.proofs.Block.{length-block}
 use Rattle.pool.proofs.Runs.{run-append}
 use Rattle.marks.specs.Marks.{seen}
-use Rattle.sound.specs.Shape.{Adds, Unmet, Claims, kidAt, Sturdy, Grows, GrownKids, GrowsKids, below}
-use Rattle.sound.proofs.Growth.{count-below, ids-leaf, ids-inner, here}
+use Rattle.shape.specs.Shape.{Adds, Unmet, Claims, Sturdy, Grows, GrownKids, GrowsKids, below}
+use Rattle.shape.proofs.Growth.{count-below, ids-leaf, ids-inner, here}
 
 -- ---- the nodes below the first c children
 

@@ -6,12 +6,11 @@ use native.Mathlib.Nat.{sub-zero, zero-add}
 use native.Mathlib.Omega.{arith}
 use lib.ListN.{length, List·getD-eq-default}
 use Rattle.pool.specs.Layout.{headWords, nodeWords, start}
-use Rattle.pool.specs.Parts.{levelsAt}
+use Rattle.pool.specs.Parts.{kidAt, levelsAt}
 use Rattle.pool.proofs.Block.{block-word}
 use Rattle.pool.proofs.Read.{levels-leaf, levels-inner}
-use Rattle.sound.specs.Shape.{kidAt}
-use Rattle.sound.proofs.depth.Statement.{statement}
-use Rattle.sound.proofs.depth.Tie as tie
+use Rattle.shape.proofs.depth.Statement.{statement}
+use Rattle.shape.proofs.depth.Tie as tie
 
 abbrev Passed : List ℕ → ℕ → ℕ → ℕ → ℕ → Type 0
 Passed w p k at levels = (1 ≤ at) × (levels ≤ p) × (levels + levelsAt (p - levels) w at ≡ levelsAt p w k)

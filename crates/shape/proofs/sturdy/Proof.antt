@@ -3,8 +3,8 @@ use mathlib.Core.Bool.{false≢true}
 use mathlib.Core.Logic.{⊎-elim}
 use native.Mathlib.Omega.{arith}
 use borrow.Author.Tests.{ltb-true, ltb-false, leb-true, leb-false}
-use Rattle.sound.proofs.sturdy.Statement.{statement}
-use Rattle.sound.proofs.sturdy.Tie as tie
+use Rattle.shape.proofs.sturdy.Statement.{statement}
+use Rattle.shape.proofs.sturdy.Tie as tie
 
 -- of the two tests of an `||` or `&&` the second is told as a `Bool`
 ruleset tests = (arith, ltb-true, ltb-false, leb-true, leb-false)

@@ -8,21 +8,21 @@ use borrow.Fn.Kinds.{In}
 use borrow.Fn.PlainCycle.{Measures, is, falls, and}
 use lib.Dec.{eqb}
 use Rattle.pool.specs.Parts.{countAt}
-use Rattle.sound.proofs.Growth.{inside, reach-below}
-use Rattle.sound.proofs.Walk.{not-sturdy, met-twice, leaf-found, inner-found}
-use Rattle.sound.proofs.Walk.{Walked, walked-none, walked-more, walked-bad, walked-all}
-use Rattle.sound.proofs.grown.Reads as grown
-use Rattle.sound.proofs.grown.Kinds as grown-kinds
-use Rattle.sound.proofs.+grown+grown_kids.Lts-grown as grown-lts
-use Rattle.sound.proofs.grown_kids.Reads as kids
-use Rattle.sound.proofs.grown_kids.Kinds as kids-kinds
-use Rattle.sound.proofs.+grown+grown_kids.Lts-grown_kids as kids-lts
+use Rattle.shape.proofs.Growth.{inside, reach-below}
+use Rattle.shape.proofs.Walk.{not-sturdy, met-twice, leaf-found, inner-found}
+use Rattle.shape.proofs.Walk.{Walked, walked-none, walked-more, walked-bad, walked-all}
+use Rattle.shape.proofs.grown.Reads as grown
+use Rattle.shape.proofs.grown.Kinds as grown-kinds
+use Rattle.shape.proofs.+grown+grown_kids.Lts-grown as grown-lts
+use Rattle.shape.proofs.grown_kids.Reads as kids
+use Rattle.shape.proofs.grown_kids.Kinds as kids-kinds
+use Rattle.shape.proofs.+grown+grown_kids.Lts-grown_kids as kids-lts
 use Rattle.marks.proofs.claim.Reads as claim-reads
 use Rattle.pool.proofs.count_at.Reads as count-at-reads
-use Rattle.sound.proofs.kid_at.Reads as kid-at-reads
-use Rattle.sound.proofs.sturdy.Reads as sturdy-reads
-use Rattle.sound.proofs.+grown+grown_kids.{statement}
-use Rattle.sound.proofs.+grown+grown_kids.Tie.{close}
+use Rattle.pool.proofs.kid_at.Reads as kid-at-reads
+use Rattle.shape.proofs.sturdy.Reads as sturdy-reads
+use Rattle.shape.proofs.+grown+grown_kids.{statement}
+use Rattle.shape.proofs.+grown+grown_kids.Tie.{close}
 
 abbrev μ-grown : Measures 2 grown-kinds.ps ℕ
 μ-grown κs a = 2 * a .1 .1 .1 .1 .0

@@ -1,9 +1,9 @@
 -- `shape` meets its contract: a tree that is well grown from the root on is well shaped, and none has more levels than p nodes reach.
 use native.Mathlib.Omega.{arith}
 use borrow.Author.Tests.{not-true, not-false}
-use Rattle.sound.proofs.Growth.{shapes, too-deep}
-use Rattle.sound.proofs.shape.Statement.{statement}
-use Rattle.sound.proofs.shape.Tie as tie
+use Rattle.shape.proofs.Growth.{shapes, too-deep}
+use Rattle.shape.proofs.shape.Statement.{statement}
+use Rattle.shape.proofs.shape.Tie as tie
 
 returns : tie.Need-returns
 returns c = too-deep (c .before .within-reach .ensures .bad (not-true _ (c .if1 .taken)))

@@ -3,13 +3,18 @@ use mathlib.Core.Path.{_≡_}
 use mathlib.Core.Bool.{Bool, true, false}
 use mathlib.Core.List.{List, map}
 use Prim.Native.Nat.{ℕ, zero, suc, _+_, _*_, _^_, _≤_, _<_}
-use lib.ListN.{length, getD}
+use lib.ListN.{length}
 use Rattle.lists.specs.Lists.{concat, count, from}
 use Rattle.model.specs.Tree.{Tree, kid, ids}
 use Rattle.model.specs.Fit.{FitTree}
-use Rattle.pool.specs.Layout.{headWords, nodeWords, block}
-use Rattle.pool.specs.Parts.{countAt, kidIdsAt, treeAt}
+use Rattle.pool.specs.Layout.{headWords, nodeWords}
+use Rattle.pool.specs.Parts.{countAt, kidAt, kidIdsAt, treeAt}
 use Rattle.marks.specs.Marks.{seen}
+
+-- r says whether P
+pub record Tells (r : Bool) (P : Type 0) : Type 0 where
+  pub good : r ≡ true → P
+  pub bad : r ≡ false → P → ⊥
 
 -- a pool of p nodes, and marks for all of them
 pub record Room (w : List ℕ) (p : ℕ) (m : List ℕ) : Type 0 where
@@ -33,10 +38,6 @@ pub record Claims (r : Bool) (P : Type 0) (m ks m′ : List ℕ) : Type 0 where
   pub long : length m′ ≡ length m
 
 -- ---- the shape
-
--- the word of child c
-abbrev pub kidAt : List ℕ → ℕ → ℕ → ℕ
-kidAt w k c = getD (block w k) (33 + c) 0
 
 -- in a leaf the word of the first child is 0
 abbrev pub Ends : List ℕ → (h : ℕ) → Tree h → Type 0

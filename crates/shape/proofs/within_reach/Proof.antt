@@ -5,9 +5,9 @@ use Prim.Native.Nat.{ℕ, suc, _-_, _*_, _/_, _^_, _≤_, _<_}
 use native.Mathlib.Nat.{pow-succ'}
 use native.Mathlib.Omega.{arith}
 use borrow.Author.Tests.{ltb-true, ltb-false}
-use Rattle.sound.specs.Shape.{InReach}
-use Rattle.sound.proofs.within_reach.Statement.{statement}
-use Rattle.sound.proofs.within_reach.Tie as tie
+use Rattle.shape.specs.Shape.{InReach}
+use Rattle.shape.proofs.within_reach.Statement.{statement}
+use Rattle.shape.proofs.within_reach.Tie as tie
 
 abbrev Reach : ℕ → ℕ → ℕ → ℕ → Type 0
 Reach p levels left rest = (InReach p levels → 16 ^ rest ≤ left) × (16 ^ rest ≤ left → InReach p levels)

@@ -1,8 +1,8 @@
 -- `kid_at` meets its contract: the part that is lent is the node's words.
 use native.Mathlib.Omega.{arith}
 use Rattle.pool.proofs.Store.{block-in}
-use Rattle.sound.proofs.kid_at.Statement.{statement}
-use Rattle.sound.proofs.kid_at.Tie as tie
+use Rattle.pool.proofs.kid_at.Statement.{statement}
+use Rattle.pool.proofs.kid_at.Tie as tie
 
 pub kid-at-spec : {M : Type 1} → statement M
 kid-at-spec =

@@ -18,13 +18,12 @@ use Rattle.model.specs.Tree.{Tree, kid, none, ids}
 use Rattle.model.specs.Fit.{Child, Fit}
 use Rattle.model.proofs.Bounds.{size-most, height}
 use Rattle.pool.specs.Layout.{headWords, nodeWords, block}
-use Rattle.pool.specs.Parts.{Inside, countAt, kidIdsAt, treeAt, levelsAt}
+use Rattle.pool.specs.Parts.{Inside, countAt, kidAt, kidIdsAt, treeAt, levelsAt}
 use Rattle.pool.proofs.Block.{length-block}
 use Rattle.pool.proofs.Whole.{Within}
 use Rattle.pool.proofs.Read.{levels-leaf, levels-inner, levels-nodes}
 use Rattle.marks.proofs.Laws.{seen-lt}
-use Rattle.sound.specs.Shape.{kidAt, Ends, WellShaped, InReach, Shapes, Sturdy, Grown, Grows, below}
-use Rattle.sound.specs.Filled.{Readable}
+use Rattle.shape.specs.Shape.{Ends, WellShaped, InReach, Shapes, Sturdy, Grown, Grows, below}
 
 -- ---- the tree that is read off a node
 
@@ -35,7 +34,7 @@ tree-id w (suc h) k = refl
 
 module _ (w : List ℕ) (k : ℕ) (I : Inside w k) where
   -- a count that is read from no fewer words is the number of elements
-  pub few-elems : (h : ℕ) → length (treeAt w h k .elems) ≤ 31 → countAt w k ≤ 31
+  few-elems : (h : ℕ) → length (treeAt w h k .elems) ≤ 31 → countAt w k ≤ 31
   unfolding treeAt run
   few-elems zero l = omega (arith, length-block w k I, simp (length-take, length-drop) at l)
   few-elems (suc h) l = omega (arith, length-block w k I, simp (length-take, length-drop) at l)
@@ -49,7 +48,7 @@ module _ (w : List ℕ) (k : ℕ) (I : Inside w k) where
     pub ids-long : length (kidIdsAt w k) ≡ countAt w k + 1
     ids-long = run-length (block w k) 33 (countAt w k + 1) (omega (arith, length-block w k I))
 
-    pub kids-long : (h : ℕ) → length (treeAt w (suc h) k .kids) ≡ countAt w k + 1
+    kids-long : (h : ℕ) → length (treeAt w (suc h) k .kids) ≡ countAt w k + 1
     unfolding treeAt
     kids-long h = length-map (kidIdsAt w k) (treeAt w h) ∙ ids-long
 
@@ -64,7 +63,7 @@ module _ (w : List ℕ) (k : ℕ) (I : Inside w k) where
         → (c : ℕ) → c < length (treeAt w (suc h) k .kids) → P (kid h (treeAt w (suc h) k) c)
     kids-of h P f c l = let n : c < countAt w k + 1 = omega (arith, kids-long h) in rw (kid-is h c n) (f c n)
 
-    pub of-kids : (h : ℕ) (P : Tree h → Type 0) → ((c : ℕ) → c < length (treeAt w (suc h) k .kids) → P (kid h (treeAt w (suc h) k) c))
+    of-kids : (h : ℕ) (P : Tree h → Type 0) → ((c : ℕ) → c < length (treeAt w (suc h) k .kids) → P (kid h (treeAt w (suc h) k) c))
         → (c : ℕ) → c < countAt w k + 1 → P (treeAt w h (kidAt w k c))
     of-kids h P f c l = rw (kid-is h c l) at (f c (omega (arith, kids-long h)))
 
@@ -124,7 +123,7 @@ module _ (p : ℕ) where
         ]
       ]
 
-  pub within-all : (ks : List ℕ) → ((j : ℕ) → count j ks ≤ count j (from 1 p)) → All (Within p) ks
+  within-all : (ks : List ℕ) → ((j : ℕ) → count j ks ≤ count j (from 1 p)) → All (Within p) ks
   within-all ks f = all-map (λ j l. in-from j (omega (arith, f j))) (all-counted ks)
 
   pub once-all : {ks : List ℕ} → All (Within p) ks → ((j : ℕ) → 1 ≤ j → count j ks ≤ 1) → (j : ℕ) → count j ks ≤ count j (from 1 p)
@@ -135,11 +134,6 @@ module _ (p : ℕ) where
       ]
 
 -- ---- well grown is well shaped
-
--- what is known of each node of a tree that is well grown
-pub record Met (w : List ℕ) (p k : ℕ) : Type 0 where
-  pub within : Within p k
-  pub reads : Readable w k
 
 pub here : {w : List ℕ} {p : ℕ} (h : ℕ) {least k : ℕ} → Grown w p h least k → Sturdy w p least k
 here zero G = G .0
@@ -152,7 +146,7 @@ module _ (w : List ℕ) (p : ℕ) (exact : length w ≡ headWords + nodeWords * 
   enough-elems : (h least k : ℕ) → Grown w p h least k → least ≤ length (treeAt w h k .elems)
   enough-elems h least k G = let S = here h G in rw (elems-long w k (inside S) (S .most) h) (S .enough)
 
-  pub grown-fit : (h least k : ℕ) → Grown w p h least k → Fit h (treeAt w h k)
+  grown-fit : (h least k : ℕ) → Grown w p h least k → Fit h (treeAt w h k)
   grown-fit zero least k G = record { most = rw (elems-long w k (inside (G .0)) (G .0 .most) zero) (G .0 .most) }
   grown-fit (suc h) least k G =
       let I = inside (G .0) in
@@ -169,19 +163,17 @@ module _ (w : List ℕ) (p : ℕ) (exact : length w ≡ headWords + nodeWords * 
   grown-ends zero least k G = rw (tree-id w zero k) (G .1)
   grown-ends (suc h) least k G = kids-of w k (inside (G .0)) (G .0 .most) h (Ends w h) (λ c l. grown-ends h 15 (kidAt w k c) (G .1 c l))
 
-  pub grown-nodes : (h least k : ℕ) → Grown w p h least k → All (Met w p) (ids h (treeAt w h k))
-  grown-nodes zero least k G =
-      rw (ids-leaf w k)
-      (cons (record {
-        within = record { low = G .0 .some; high = G .0 .within };
-        reads = record { inside = inside (G .0); most = G .0 .most; kids = λ n. absurd (n (G .1)) };
-      }) nil)
-  grown-nodes (suc h) least k G =
-      rw (ids-inner w h k)
-      (cons (record {
-        within = record { low = G .0 .some; high = G .0 .within };
-        reads = record { inside = inside (G .0); most = G .0 .most; kids = λ n c l. inside (here h (G .1 c l)) };
-      }) (below-all w h (all-kids w k (inside (G .0)) (G .0 .most) _ (λ c l. grown-nodes h 15 (kidAt w k c) (G .1 c l)))))
+  -- what holds of a node with a well grown tree holds of each node of the tree
+  module _ (P : ℕ → Type 0) (f : (h least k : ℕ) → Grown w p h least k → P k) where
+    pub grown-nodes : (h least k : ℕ) → Grown w p h least k → All P (ids h (treeAt w h k))
+    grown-nodes zero least k G = rw (ids-leaf w k) (cons (f zero least k G) nil)
+    grown-nodes (suc h) least k G =
+        rw (ids-inner w h k)
+        (cons (f (suc h) least k G)
+        (below-all w h (all-kids w k (inside (G .0)) (G .0 .most) _ (λ c l. grown-nodes h 15 (kidAt w k c) (G .1 c l)))))
+
+  grown-within : (h least k : ℕ) → Grown w p h least k → Within p k
+  grown-within h least k G = let S = here h G in record { low = S .some; high = S .within }
 
   -- the other way round
   sturdy : (h least k : ℕ) → Within p k → least ≤ length (treeAt w h k .elems) → length (treeAt w h k .elems) ≤ 31 → Sturdy w p least k
@@ -214,7 +206,7 @@ module _ (w : List ℕ) (p : ℕ) (exact : length w ≡ headWords + nodeWords * 
         let A = M .good t .1 in (
           record {
             fit = record { some = enough-elems h 1 k G; fit = grown-fit h 1 k G };
-            once = once-all p (all-map (λ j N. N .within) (grown-nodes h 1 k G)) (λ j l. omega (arith, A j l, seen-lt m′ j));
+            once = once-all p (grown-nodes (Within p) grown-within h 1 k G) (λ j l. omega (arith, A j l, seen-lt m′ j));
             ends = grown-ends h 1 k G;
           },
           A,

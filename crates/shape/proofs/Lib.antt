@@ -1,0 +1,3 @@
+-- The laws of the first pass.
+pub mod Growth
+pub mod Walk
