@@ -1,7 +1,7 @@
 // The door's calls under the names that C and Rust link. A lent slice passes as a pointer and its number of words.
 ghost use Rattle.model.specs.Calls.{refused, checkCall, lenCall, getCall, skipCall, stays, insertCall, pushCall, replaceCall, removeCall};
 ghost use Rattle.views.specs.Part.{nowhere, partCall};
-ghost use Rattle.door.specs.Promise.{Edits, Tells, Compares, Formats};
+ghost use Rattle.admission.specs.Promise.{Edits, Tells, Compares, Formats};
 ghost use Rattle.batch.specs.Batch.{Batches};
 use commands::Ran;
 use model::Answer;

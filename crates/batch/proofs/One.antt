@@ -3,7 +3,7 @@ use mathlib.Core.Path.{_≡_, sym, _∙_}
 use mathlib.Core.List.{List}
 use Prim.Native.Nat.{ℕ}
 use Rattle.pool.proofs.Read.{one-pool}
-use Rattle.door.proofs.One.{decided}
+use Rattle.admission.proofs.One.{decided}
 use Rattle.commands.specs.declared.Ran.{Ran}
 use Rattle.batch.specs.Batch.{Idle, Batches}
 

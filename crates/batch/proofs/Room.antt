@@ -8,7 +8,7 @@ use lib.Dec.{eqb}
 use lib.ListN.{length, length-append}
 use Rattle.model.specs.declared.Answer.{Answer}
 use Rattle.model.specs.Tree.{Bag}
-use Rattle.door.proofs.One.{decided}
+use Rattle.admission.proofs.One.{decided}
 use Rattle.records.specs.declared.Command.{Command}
 use Rattle.records.specs.declared.Command.the-variants.{Insert, Remove, Push, Get, Replace, Len}
 use Rattle.records.specs.declared.Record.the-variants.{Refusal}

@@ -10,7 +10,7 @@ use Rattle.model.specs.Tree.{Bag}
 use Rattle.model.specs.Calls.{refused, lenCall, getCall, insertCall, pushCall, replaceCall, removeCall}
 use Rattle.pool.specs.Sound.{Holds, Sound}
 use Rattle.pool.proofs.Read.{one-pool}
-use Rattle.door.proofs.Kept.{insert-lawful, push-lawful, replace-lawful, remove-lawful, left-words, edits-held, tells-held}
+use Rattle.admission.proofs.Kept.{insert-lawful, push-lawful, replace-lawful, remove-lawful, left-words, edits-held, tells-held}
 use Rattle.records.specs.declared.Command.{Command}
 use Rattle.records.specs.declared.Command.the-variants.{Insert, Remove, Push, Get, Replace, Len}
 use Rattle.records.specs.Answers.{recordBytes}

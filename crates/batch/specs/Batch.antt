@@ -3,7 +3,7 @@ use mathlib.Core.Path.{_≡_}
 use mathlib.Core.List.{List}
 use Prim.Native.Nat.{ℕ}
 use lib.ListN.{length}
-use Rattle.door.specs.Promise.{Promise}
+use Rattle.admission.specs.Promise.{Promise}
 use Rattle.commands.specs.declared.Ran.{Ran}
 use Rattle.commands.specs.Steps.{batchOf}
 use Rattle.commands.specs.OnBag.{onBag, Runs}

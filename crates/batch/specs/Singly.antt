@@ -6,7 +6,7 @@ use lib.ListN.{length}
 use lib.Seq.{sets}
 use Rattle.model.specs.declared.Answer.{Answer}
 use Rattle.model.specs.Calls.{refused, lenCall, getCall, insertCall, pushCall, replaceCall, removeCall}
-use Rattle.door.specs.Promise.{Edits, Tells}
+use Rattle.admission.specs.Promise.{Edits, Tells}
 use Rattle.records.specs.declared.Command.{Command}
 use Rattle.records.specs.declared.Command.the-variants.{Insert, Remove, Push, Get, Replace, Len}
 use Rattle.records.specs.declared.Next.the-variants.{Whole}

@@ -6,7 +6,7 @@ use commands::Ran;
 pub fn batch(pool: &mut [u64], input: &[u8], output: &mut [u8]) -> Ran
     ensures { λ r. ⌜ Batches (now (pool .entry)) (now (input .entry)) (now (output .entry)) r (now (pool .exit)) (now (output .exit)) ⌝ }
 {
-    let o = door::admit(pool);
+    let o = admission::admit(pool);
     if o.number != 0 {
         return Ran {
             number: o.number,

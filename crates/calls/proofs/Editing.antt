@@ -18,7 +18,7 @@ use Rattle.model.proofs.Bags.{bag-replace, bag-insert, bag-remove}
 use Rattle.pool.specs.Layout.{rootWord, chainWord, rootId}
 use Rattle.pool.specs.Sound.{Holds}
 use Rattle.pool.specs.Parts.{RootAt}
-use Rattle.pool.specs.Chain.{Untouched}
+use Rattle.pool.specs.Frame.{Untouched}
 use Rattle.pool.proofs.Whole.{holds-parts, parts-holds, unique}
 use Rattle.pool.proofs.Frame.{chain-inside, chain-frame}
 use Rattle.tree.specs.declared.Known.{Known}

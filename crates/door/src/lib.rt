@@ -1,40 +1,13 @@
 // The calls that firmware makes, on any words at all. Each checks the pool in full, and refuses by 01's numbers.
 ghost use Rattle.model.specs.Calls.{refused, checkCall, lenCall, getCall, skipCall, stays, insertCall, pushCall, replaceCall, removeCall};
 ghost use Rattle.views.specs.Part.{nowhere, partCall};
-ghost use Rattle.door.specs.Promise.{Edits, Tells, unknown, admitted, Compares, Formats, Windows};
+ghost use Rattle.admission.specs.Promise.{Edits, Tells, Compares, Formats, Windows};
+use admission::admit;
 use calls::give;
 use calls::refuse;
 use model::Answer;
 use model::Walked;
-use tree::Known;
 use views::Span;
-
-// A pool that was admitted: the number that refuses it, or 0 and what is known of its bag.
-pub struct Admitted {
-    pub number: u64,
-    pub known: Known,
-}
-
-// Checks the pool in full.
-pub fn admit(pool: &[u64]) -> Admitted
-    ensures { λ r. ⌜ Tells unknown admitted (now (pool .entry)) r ⌝ }
-{
-    let c = sound::check(pool);
-    if c.number != 0 {
-        return Admitted {
-            number: c.number,
-            known: Known {
-                root: 0,
-                levels: 0,
-                free: 0,
-            },
-        };
-    }
-    Admitted {
-        number: 0,
-        known: calls::known_of(pool, c.levels, c.free),
-    }
-}
 
 // Makes an empty list of any old contents.
 pub fn format(pool: &mut [u64]) -> Answer
@@ -43,7 +16,7 @@ pub fn format(pool: &mut [u64]) -> Answer
     if !pool::length_fits(pool.len()) {
         return refuse(4);
     }
-    pool::format(pool);
+    chain::format(pool);
     give(0)
 }
 

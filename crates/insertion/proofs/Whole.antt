@@ -18,7 +18,8 @@ use Rattle.model.proofs.Insert.{full, not-full}
 use Rattle.model.proofs.Bags.{bag-insert, Lifted, lift-law, bag-bare, bag-room, bag-full}
 use Rattle.pool.specs.Layout.{withBlock, nodeBlock, kidIds, rootBlock, rootId}
 use Rattle.pool.specs.Parts.{Stored, At, ChainAt}
-use Rattle.pool.specs.Chain.{Untouched, Free, Took}
+use Rattle.pool.specs.Frame.{Untouched}
+use Rattle.chain.specs.Chain.{Free, Took}
 use Rattle.pool.proofs.Blocks.{length-nodeBlock}
 use Rattle.pool.proofs.Frame.{chain-untouched, untouched-more, untouched-both, Wrote, wrote, stored-same}
 use Rattle.tree.specs.declared.Known.{Known}

@@ -162,7 +162,7 @@ pub fn insert(pool: &mut [u64], known: Known, index: usize, x: u64) -> Placed
         return Placed { done: false, known };
     }
     if known.root == 0 {
-        let root = pool::take_node(pool);
+        let root = chain::take_node(pool);
         put_element(pool, root, 0, x);
         let levels = 0;
         let free = known.free - 1;

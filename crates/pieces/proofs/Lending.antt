@@ -8,7 +8,7 @@ use Rattle.lists.specs.Lists.{count, insertAt, removeAt}
 use Rattle.lists.proofs.Edits.{length-insertAt, length-removeAt}
 use Rattle.lists.proofs.Counts.{count-other, one-other}
 use Rattle.pool.specs.Layout.{withBlock, nodeBlock}
-use Rattle.pool.specs.Chain.{Untouched}
+use Rattle.pool.specs.Frame.{Untouched}
 use Rattle.pool.proofs.Blocks.{length-nodeBlock}
 use Rattle.pool.proofs.Frame.{stored-untouched, untouched-both, Wrote, wrote}
 use Rattle.tree.specs.Node.{Node}

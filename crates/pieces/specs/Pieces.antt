@@ -7,7 +7,7 @@ use lib.ListN.{length, getD, set}
 use Rattle.lists.specs.Lists.{insertAt, removeAt}
 use Rattle.pool.specs.Layout.{chainWord, nodeBlock, withBlock}
 use Rattle.pool.specs.Parts.{Inside, Stored, lengthAt}
-use Rattle.pool.specs.Chain.{Untouched}
+use Rattle.pool.specs.Frame.{Untouched}
 use Rattle.tree.specs.Node.{Node}
 use Rattle.tree.specs.Lookup.{HasElement}
 use Rattle.pieces.specs.declared.Piece.{Piece}

@@ -11,7 +11,7 @@ use Rattle.model.specs.Tree.{Tree, kid, ids, Root, bare, rooted, rootIds}
 use Rattle.model.proofs.Nodes.{held-kid}
 use Rattle.pool.specs.Layout.{chainWord, nodeWords, block, withBlock}
 use Rattle.pool.specs.Parts.{Inside, Stored, At, RootAt, ChainAt}
-use Rattle.pool.specs.Chain.{Untouched}
+use Rattle.pool.specs.Frame.{Untouched}
 use Rattle.pool.proofs.Block.{length-withBlock, head-word, stored-block, block-other}
 use Rattle.pool.proofs.Cells.{tree-ids, chain-ids, words-are, at-cells, links-cells}
 

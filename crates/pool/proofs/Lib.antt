@@ -10,7 +10,6 @@ pub mod Node
 pub mod Frame
 pub mod Read
 pub mod Decide
-pub mod Chain
 pub mod Finding
 pub mod Areas
 pub mod Runs

@@ -1,5 +1,5 @@
 pub mod Layout
 pub mod Sound
 pub mod Parts
-pub mod Chain
+pub mod Frame
 pub mod Find

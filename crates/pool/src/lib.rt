@@ -1,15 +1,12 @@
-// The pool: where a node's words are, what they say, the child finder, the free chain, and formatting.
+// The pool: where a node's words are, what they say, and the child finder.
 ghost use mathlib.Core.Path.{_≡_};
-ghost use mathlib.Core.List.{List};
-ghost use Prim.Native.Nat.{ℕ, _+_, _^_, _<_, _≤_};
+ghost use Prim.Native.Nat.{_+_, _^_, _<_, _≤_};
 ghost use lib.Dec.{eqb, leb};
 ghost use lib.ListN.{length, getD};
-ghost use Rattle.lists.specs.Lists.{count};
-ghost use Rattle.model.specs.Tree.{findIn, empty};
-ghost use Rattle.pool.specs.Layout.{nodeWords, start, words};
-ghost use Rattle.pool.specs.Sound.{nodesIn, fits, Sized};
-ghost use Rattle.pool.specs.Parts.{Inside, ChainAt, countAt, lengthAt, kidAt};
-ghost use Rattle.pool.specs.Chain.{Free, Took, Gave};
+ghost use Rattle.model.specs.Tree.{findIn};
+ghost use Rattle.pool.specs.Layout.{nodeWords, start};
+ghost use Rattle.pool.specs.Sound.{fits};
+ghost use Rattle.pool.specs.Parts.{Inside, countAt, lengthAt, kidAt};
 ghost use Rattle.pool.specs.Find.{Inner, kidLengths};
 use model::Place;
 
@@ -146,43 +143,5 @@ pub fn find_child_index(pool: &[u64], node: &[u64], index: usize) -> Place
         }
         sub -= n + 1;
         child += 1;
-    }
-}
-
-// Takes the first free node out of the chain: the one that was freed last.
-pub fn take_node(pool: &mut [u64]) -> usize
-    requires { ⌜ ((f : List ℕ) × Free (now pool) f) ⌝ }
-    ensures { λ r. ⌜ ((f : List ℕ) → Free (now (pool .entry)) f → Took (now (pool .entry)) f r (now (pool .exit))) ⌝ }
-{
-    let k = pool[CHAIN_WORD] as usize;
-    let a = start_of(k);
-    pool[CHAIN_WORD] = pool[a + LINK];
-    pool[a + LINK] = 0;
-    k
-}
-
-// Puts node k in front of the chain, all its words 0 but the link.
-pub fn give_node(pool: &mut [u64], k: usize)
-    requires { ⌜ Inside (now pool) k ⌝ }
-    ensures { λ _. ⌜ ((f : List ℕ) → ChainAt (now (pool .entry)) f → count k f ≡ 0 → Gave (now (pool .entry)) f k (now (pool .exit))) ⌝ }
-{
-    let a = start_of(k);
-    words::clear_run(pool, a, LINK);
-    let first = pool[CHAIN_WORD];
-    pool[a + LINK] = first;
-    pool[CHAIN_WORD] = k as u64;
-}
-
-// Makes an empty list of any old contents: every node is given to the chain, the first one last.
-pub fn format(pool: &mut [u64])
-    requires { ⌜ Sized (now pool) ⌝ }
-    ensures { λ _. ⌜ now (pool .exit) ≡ words (nodesIn (length (now (pool .entry)))) (empty (nodesIn (length (now (pool .entry))))) ⌝ }
-{
-    pool[ROOT_WORD] = 0;
-    pool[CHAIN_WORD] = 0;
-    let mut k = (pool.len() - HEAD_WORDS) / NODE_WORDS;
-    while 0 < k {
-        give_node(pool, k);
-        k -= 1;
     }
 }

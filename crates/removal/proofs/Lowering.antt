@@ -14,7 +14,8 @@ use Rattle.model.proofs.Nodes.{node, held-id, kids-held, flat-length}
 use Rattle.model.proofs.Remove.{Removed, remove-law}
 use Rattle.pool.specs.Layout.{start, block, rootId}
 use Rattle.pool.specs.Parts.{Inside, ChainAt, countAt}
-use Rattle.pool.specs.Chain.{Untouched, Gave}
+use Rattle.pool.specs.Frame.{Untouched}
+use Rattle.chain.specs.Chain.{Gave}
 use Rattle.pool.proofs.Store.{part, block-in}
 use Rattle.pool.proofs.Node.{at-count, at-kid}
 use Rattle.pool.proofs.Frame.{at-untouched, chain-few, untouched-more, untouched-none, untouched-both}

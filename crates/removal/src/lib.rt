@@ -126,7 +126,7 @@ fn lower(pool: &mut [u64], known: Known) -> Known
     }
     let a = pool::start_of(known.root);
     let k = pool::kid(&pool[a..a + NODE_WORDS], 0);
-    pool::give_node(pool, known.root);
+    chain::give_node(pool, known.root);
     let free = known.free + 1;
     if known.levels == 0 {
         return Known {

@@ -13,7 +13,8 @@ use Rattle.model.specs.Remove.{joined, merge, withPair, gaveLast, tookFront, ga
 use Rattle.model.proofs.Fill.{merge-law, borrow-left-law, borrow-right-law}
 use Rattle.pool.specs.Layout.{chainWord, nodeWords, withBlock, nodeBlock, idOf, kidIds, rootBlock}
 use Rattle.pool.specs.Parts.{Inside, Stored, ChainAt, countAt}
-use Rattle.pool.specs.Chain.{Untouched, Gave}
+use Rattle.pool.specs.Frame.{Untouched}
+use Rattle.chain.specs.Chain.{Gave}
 use Rattle.pool.proofs.Node.{at-count}
 use Rattle.pool.proofs.Frame.{stored-untouched, untouched-both, Wrote, wrote, stored-same}
 use Rattle.pool.proofs.Blocks.{length-nodeBlock, length-rootBlock}

@@ -16,7 +16,7 @@ use Rattle.model.specs.Tree.{Tree, kid, none, size}
 use Rattle.model.proofs.Nodes.{held, held-inner, held-id}
 use Rattle.pool.specs.Layout.{chainWord, idOf, rootBlock}
 use Rattle.pool.specs.Parts.{Stored, At, ChainAt}
-use Rattle.pool.specs.Chain.{Untouched}
+use Rattle.pool.specs.Frame.{Untouched}
 use Rattle.pool.proofs.Frame.{chain-untouched}
 use Rattle.tree.specs.Lookup.{HasKid}
 use Rattle.tree.specs.Stands.{Owns, Reshaped}

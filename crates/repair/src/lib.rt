@@ -21,7 +21,7 @@ pub fn merge(pool: &mut [u64], id: usize, c: usize)
     let l = tree::child(pool, id, c);
     let p = pieces::take_out(pool, id, c, c + 1, 0);
     pieces::append(pool, l, p.elem, p.kid);
-    pool::give_node(pool, p.kid);
+    chain::give_node(pool, p.kid);
 }
 
 // Child c + 1 of node id borrows from child c.

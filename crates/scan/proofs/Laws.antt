@@ -15,7 +15,7 @@ use Rattle.model.specs.declared.Answer.{Answer}
 use Rattle.model.specs.Tree.{Bag, empty}
 use Rattle.pool.specs.Sound.{Holds, fits}
 use Rattle.pool.proofs.Whole.{holds-empty}
-use Rattle.door.specs.Promise.{Formats}
+use Rattle.admission.specs.Promise.{Formats}
 use Rattle.records.specs.Numbers.{bytesOf}
 use Rattle.commands.specs.declared.Ran.{Ran}
 use Rattle.commands.specs.Steps.{batchOf}

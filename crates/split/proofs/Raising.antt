@@ -14,7 +14,7 @@ use Rattle.model.proofs.Nodes.{node, held, held-inner, fits, child}
 use Rattle.model.proofs.Insert.{full}
 use Rattle.pool.specs.Layout.{withBlock, nodeBlock, kidIds, rootBlock}
 use Rattle.pool.specs.Parts.{Inside, At, lengthAt}
-use Rattle.pool.specs.Chain.{Free, Took}
+use Rattle.chain.specs.Chain.{Free, Took}
 use Rattle.pool.proofs.Blocks.{length-nodeBlock}
 use Rattle.pool.proofs.Node.{at-length}
 use Rattle.pool.proofs.Frame.{at-untouched, chain-untouched, untouched-more, untouched-both, Wrote, wrote, stored-same}

@@ -19,7 +19,8 @@ use Rattle.model.proofs.Find.{place, found}
 use Rattle.model.proofs.Split.{split-law}
 use Rattle.pool.specs.Layout.{withBlock, nodeBlock, idOf, kidIds, rootBlock}
 use Rattle.pool.specs.Parts.{At, lengthAt}
-use Rattle.pool.specs.Chain.{Untouched, Free, Took}
+use Rattle.pool.specs.Frame.{Untouched}
+use Rattle.chain.specs.Chain.{Free, Took}
 use Rattle.pool.proofs.Blocks.{length-nodeBlock, most-kids}
 use Rattle.pool.proofs.Frame.{stored-untouched, chain-untouched, untouched-both, Wrote, wrote, stored-same}
 use Rattle.tree.specs.Node.{Node}

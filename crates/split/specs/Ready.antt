@@ -6,7 +6,7 @@ use lib.ListN.{length, getD, drop}
 use Rattle.model.specs.Tree.{Tree, kid, ids}
 use Rattle.model.specs.Insert.{aboveRoot}
 use Rattle.pool.specs.Parts.{At, ChainAt}
-use Rattle.pool.specs.Chain.{Untouched}
+use Rattle.pool.specs.Frame.{Untouched}
 use Rattle.tree.specs.Stands.{Owns}
 
 -- child c of node id is full, there is room for one more beside it, and a node is free

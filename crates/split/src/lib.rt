@@ -101,7 +101,7 @@ pub fn split_child(pool: &mut [u64], id: usize, c: usize)
     let middle = tree::element(pool, child, 15);
     let left = sum_lengths(pool, child, 0) + 15;
     let right = sum_lengths(pool, child, 16) + 15;
-    let sibling = pool::take_node(pool);
+    let sibling = chain::take_node(pool);
     move_upper(pool, child, sibling, right);
     keep_lower(pool, child, left);
     put_separator(pool, id, c, middle, sibling);
@@ -114,7 +114,7 @@ pub fn raise_root(pool: &mut [u64], old: usize) -> usize
         → Raised (now (pool .entry)) (now (pool .exit)) (s .height) (s .tree) (s .free) r) ⌝ }
 {
     let n = pool::length_at(pool, old);
-    let root = pool::take_node(pool);
+    let root = chain::take_node(pool);
     put_above(pool, root, old, n);
     split_child(pool, root, 0);
     root

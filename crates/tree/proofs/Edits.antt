@@ -13,7 +13,7 @@ use Rattle.model.specs.Tree.{Tree, Below, kid, none, size, ids}
 use Rattle.model.proofs.Nodes.{held, held-inner, held-id, kids-held, kid-size, Rearranged}
 use Rattle.pool.specs.Layout.{idOf, kidIds, rootBlock}
 use Rattle.pool.specs.Parts.{Stored, At, KidsAt, ChainAt}
-use Rattle.pool.specs.Chain.{Untouched}
+use Rattle.pool.specs.Frame.{Untouched}
 use Rattle.pool.proofs.Frame.{at-untouched, stored-untouched, chain-untouched, untouched-more, untouched-none, untouched-both}
 use Rattle.pool.proofs.Frame.{Wrote, stored-same}
 use Rattle.tree.specs.Node.{Node}

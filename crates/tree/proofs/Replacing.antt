@@ -15,7 +15,7 @@ use Rattle.model.proofs.Nodes.{same-id, held-id, kids-held, flat-length}
 use Rattle.model.proofs.Get.{get-separator, get-inside, replace-separator, replace-inside, replace-law}
 use Rattle.pool.specs.Layout.{chainWord, withBlock, nodeBlock, idOf, kidIds, rootBlock}
 use Rattle.pool.specs.Parts.{At}
-use Rattle.pool.specs.Chain.{Untouched}
+use Rattle.pool.specs.Frame.{Untouched}
 use Rattle.pool.proofs.Blocks.{length-nodeBlock}
 use Rattle.pool.proofs.Frame.{stored-untouched, untouched-more, wrote, wrote-same}
 use Rattle.tree.specs.declared.Turn.{Turn}

@@ -10,7 +10,7 @@ use Rattle.model.specs.Tree.{Tree, kid, size, ids, find, atSeparator, get, repl
 use Rattle.model.specs.Fit.{Fit}
 use Rattle.pool.specs.Layout.{chainWord, nodeBlock, withBlock}
 use Rattle.pool.specs.Parts.{At}
-use Rattle.pool.specs.Chain.{Untouched}
+use Rattle.pool.specs.Frame.{Untouched}
 use Rattle.tree.specs.declared.Turn.{Turn}
 use Rattle.tree.specs.Node.{Node}
 use Rattle.tree.specs.Stands.{Stands}

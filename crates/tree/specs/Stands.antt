@@ -8,7 +8,7 @@ use Rattle.model.specs.Tree.{Tree, size, ids, Bag, listOf, rootIds, levelsOf, m
 use Rattle.model.specs.Fit.{Fit, FitTree, FitRoot}
 use Rattle.pool.specs.Layout.{rootId}
 use Rattle.pool.specs.Parts.{At, RootAt, ChainAt}
-use Rattle.pool.specs.Chain.{Untouched}
+use Rattle.pool.specs.Frame.{Untouched}
 use Rattle.tree.specs.declared.Known.{Known}
 
 -- ---- a tree at node id, of h inner levels

@@ -2,7 +2,7 @@
 use mathlib.Core.Path.{refl}
 use borrow.Author.Needs.{needs}
 use denote.Ref.{now}
-use Rattle.door.proofs.Admitting.{refused-promise, held-promise, some-ready}
+use Rattle.admission.proofs.Admitting.{refused-promise, held-promise, some-ready}
 use Rattle.batch.specs.Batch.{ranNothing, Idle}
 use Rattle.batch.proofs.batch.Statement.{statement}
 use Rattle.batch.proofs.batch.Tie as tie

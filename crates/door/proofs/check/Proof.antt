@@ -3,7 +3,7 @@ use mathlib.Core.Path.{ap, _∙_}
 use borrow.Author.Needs.{needs}
 use Rattle.model.specs.declared.Answer.{Answer}
 use Rattle.model.specs.Calls.{refused}
-use Rattle.door.specs.declared.Admitted.{Admitted}
+use Rattle.admission.specs.declared.Admitted.{Admitted}
 use Rattle.door.proofs.check.Statement.{statement}
 use Rattle.door.proofs.check.Tie as tie
 

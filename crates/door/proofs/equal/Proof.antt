@@ -2,7 +2,7 @@
 use mathlib.Core.Path.{_≡_}
 use borrow.Author.Needs.{needs}
 use Rattle.model.specs.Calls.{refused}
-use Rattle.door.proofs.Admitting.{refused-promise, refused-tells, held-promise, some-ready}
+use Rattle.admission.proofs.Admitting.{refused-promise, refused-tells, held-promise, some-ready}
 use Rattle.door.proofs.equal.Statement.{statement}
 use Rattle.door.proofs.equal.Tie as tie
 

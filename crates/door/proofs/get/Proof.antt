@@ -1,7 +1,7 @@
 -- `get` meets its contract: refused by the check's number, or what the call on the bag tells.
 use borrow.Author.Needs.{needs}
 use Rattle.model.specs.Calls.{refused}
-use Rattle.door.proofs.Admitting.{refused-tells, held-promise, some-ready}
+use Rattle.admission.proofs.Admitting.{refused-tells, held-promise, some-ready}
 use Rattle.door.proofs.get.Statement.{statement}
 use Rattle.door.proofs.get.Tie as tie
 

@@ -2,7 +2,7 @@
 use mathlib.Core.Path.{ap, _∙_}
 use borrow.Author.Needs.{needs}
 use Rattle.model.specs.Calls.{refused, gives, lenCall}
-use Rattle.door.proofs.Admitting.{refused-tells, held-promise, some-ready}
+use Rattle.admission.proofs.Admitting.{refused-tells, held-promise, some-ready}
 use Rattle.door.proofs.len.Statement.{statement}
 use Rattle.door.proofs.len.Tie as tie
 

@@ -2,7 +2,7 @@
 use mathlib.Core.Path.{refl}
 use borrow.Author.Needs.{needs}
 use Rattle.views.specs.Part.{nowhere}
-use Rattle.door.proofs.Admitting.{refused-tells, held-promise, some-ready}
+use Rattle.admission.proofs.Admitting.{refused-tells, held-promise, some-ready}
 use Rattle.door.proofs.part.Statement.{statement}
 use Rattle.door.proofs.part.Tie as tie
 

@@ -1,6 +1,6 @@
 -- `remove` meets its contract: refused by the check's number with no word changed, or what the call on the bag does.
 use borrow.Author.Needs.{needs}
-use Rattle.door.proofs.Admitting.{refused-edits, held-edits, some-ready}
+use Rattle.admission.proofs.Admitting.{refused-edits, held-edits, some-ready}
 use Rattle.door.proofs.remove.Statement.{statement}
 use Rattle.door.proofs.remove.Tie as tie
 

@@ -11,8 +11,8 @@ use Rattle.views.specs.declared.Span.{Span}
 use Rattle.views.specs.Part.{nowhere, partCall}
 use Rattle.calls.proofs.Bags.{holds-stands}
 use Rattle.views.proofs.Views.{part-fits}
-use Rattle.door.specs.Promise.{Tells}
-use Rattle.door.proofs.One.{decided, tells-one}
+use Rattle.admission.specs.Promise.{Tells}
+use Rattle.admission.proofs.One.{decided, tells-one}
 use Rattle.door.proofs.window.Statement.{statement}
 use Rattle.door.proofs.window.Tie as tie
 

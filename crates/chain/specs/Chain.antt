@@ -1,18 +1,12 @@
 -- What taking the first free node, and giving one back, ask and leave.
 use mathlib.Core.Path.{_≡_}
 use mathlib.Core.List.{List, [], _∷_}
-use mathlib.Core.Logic.{_≢_}
 use Prim.Native.Nat.{ℕ, _≤_, _<_}
 use lib.ListN.{length, getD, drop, replicate}
 use Rattle.lists.specs.Lists.{count}
-use Rattle.pool.specs.Layout.{chainWord, headWords, nodeWords, block}
-use Rattle.pool.specs.Parts.{Inside, Stored, ChainAt}
-
--- everything but the nodes in own, and the chain word, is as it was
-pub record Untouched (w w′ : List ℕ) (own : List ℕ) : Type 0 where
-  pub long : length w′ ≡ length w
-  pub head : (i : ℕ) → i < headWords → i ≢ chainWord → getD w′ i 0 ≡ getD w i 0
-  pub others : (k : ℕ) → Inside w k → count k own ≡ 0 → block w′ k ≡ block w k
+use Rattle.pool.specs.Layout.{nodeWords}
+use Rattle.pool.specs.Parts.{Stored, ChainAt}
+use Rattle.pool.specs.Frame.{Untouched}
 
 -- a chain of nodes, of which there is one
 pub record Free (w : List ℕ) (f : List ℕ) : Type 0 where

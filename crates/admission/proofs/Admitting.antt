@@ -16,9 +16,9 @@ use Rattle.calls.specs.declared.Done.{Done}
 use Rattle.calls.specs.Does.{Ready, Does}
 use Rattle.sound.specs.declared.Checked.{Checked}
 use Rattle.sound.specs.Check.{Checks}
-use Rattle.door.specs.declared.Admitted.{Admitted}
-use Rattle.door.specs.Promise.{Promise, Edits, Tells, unknown, admitted}
-use Rattle.door.proofs.One.{decided}
+use Rattle.admission.specs.declared.Admitted.{Admitted}
+use Rattle.admission.specs.Promise.{Promise, Edits, Tells, unknown, admitted}
+use Rattle.admission.proofs.One.{decided}
 
 -- ---- by what the check says
 

@@ -9,12 +9,13 @@ use lib.Seq.{sets, set-comm, getD-set-same, getD-set-other}
 use Rattle.lists.specs.Lists.{count}
 use Rattle.lists.proofs.Counts.{count-self, count-getD}
 use Rattle.words.proofs.Laws.{sets-append, sets-outside}
 use Rattle.pool.specs.Layout.{chainWord, nodeWords, start, block, withBlock, freeBlock}
 use Rattle.pool.specs.Parts.{Inside, Stored, ChainAt}
-use Rattle.pool.specs.Chain.{Untouched, Free, Took, Gave}
+use Rattle.pool.specs.Frame.{Untouched}
+use Rattle.chain.specs.Chain.{Free, Took, Gave}
 use Rattle.pool.proofs.Block.{block-word, length-withBlock, head-word, stored-block, block-other}
 use Rattle.pool.proofs.Frame.{stored-frame}
 use Rattle.pool.proofs.Store.{block-head, set-block}
 
 -- the words b stored for node k, and then v in the chain word
 module _ (w : List ℕ) (k : ℕ) (b : List ℕ) (v : ℕ) (I : Inside w k) (e : length b ≡ nodeWords) where

@@ -11,8 +11,8 @@ use Rattle.pool.proofs.Read.{one-pool}
 use Rattle.pool.proofs.Sized.{holds-sized}
 use Rattle.pool.proofs.Decide.{sized?, sound?}
 use Rattle.views.specs.Part.{nowhere, partCall}
-use Rattle.door.proofs.Kept.{Lawfully, left-words, edits-held, tells-held}
-use Rattle.door.specs.Promise.{Edits, Tells, Compares, Formats, Windows}
+use Rattle.admission.proofs.Kept.{Lawfully, left-words, edits-held, tells-held}
+use Rattle.admission.specs.Promise.{Edits, Tells, Compares, Formats, Windows}
 
 -- every list of words is of one of the three kinds
 pub decided : {X : Type 0} (w : List ℕ) → ((Sized w → ⊥) → X) → (Sized w → (Sound w → ⊥) → X) → ((b : Bag) → Holds w b → X) → X

@@ -1,9 +1,9 @@
 -- `give_node` meets its contract: the words cleared, the link and the chain word are what the chain wants.
 use native.Mathlib.Omega.{arith}
 use lib.ListN.{length-set}
-use Rattle.pool.proofs.Chain.{gave}
-use Rattle.pool.proofs.give_node.Statement.{statement}
-use Rattle.pool.proofs.give_node.Tie as tie
+use Rattle.chain.proofs.Chain.{gave}
+use Rattle.chain.proofs.give_node.Statement.{statement}
+use Rattle.chain.proofs.give_node.Tie as tie
 
 pub give-node-spec : {M : Type 1} → statement M
 give-node-spec =

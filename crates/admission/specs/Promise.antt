@@ -12,7 +12,7 @@ use Rattle.pool.specs.Sound.{Holds, Sound, Sized, nodesIn}
 use Rattle.tree.specs.Stands.{knownOf}
 use Rattle.views.specs.declared.Span.{Span}
 use Rattle.views.specs.Part.{nowhere, partCall}
-use Rattle.door.specs.declared.Admitted.{Admitted}
+use Rattle.admission.specs.declared.Admitted.{Admitted}
 
 -- what holds of the result if the length does not fit (4), if the pool is not sound (1), and if it holds the bag b
 pub record Promise (w : List ℕ) (Four One : Type 0) (Held : Bag → Type 0) : Type 0 where

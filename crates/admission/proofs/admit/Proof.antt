@@ -1,8 +1,8 @@
 -- `admit` meets its contract: what the check says, and what is known of a pool that it finds sound.
 use borrow.Author.Needs.{needs}
-use Rattle.door.proofs.Admitting.{admits-refused, admits-long, admits-known}
-use Rattle.door.proofs.admit.Statement.{statement}
-use Rattle.door.proofs.admit.Tie as tie
+use Rattle.admission.proofs.Admitting.{admits-refused, admits-long, admits-known}
+use Rattle.admission.proofs.admit.Statement.{statement}
+use Rattle.admission.proofs.admit.Tie as tie
 
 returns : tie.Need-returns
 returns c = admits-refused (c .before .before .check .ensures) (c .if1 .taken)

@@ -2,11 +2,11 @@
 use native.Mathlib.Omega.{arith}
 use denote.Ref.{now}
 use lib.ListN.{getD, length-set}
 use Rattle.pool.specs.Layout.{chainWord}
 use Rattle.pool.specs.Parts.{Inside}
-use Rattle.pool.proofs.Chain.{free-inside, took}
-use Rattle.pool.proofs.take_node.Statement.{statement}
-use Rattle.pool.proofs.take_node.Tie as tie
+use Rattle.chain.proofs.Chain.{free-inside, took}
+use Rattle.chain.proofs.take_node.Statement.{statement}
+use Rattle.chain.proofs.take_node.Tie as tie
 
 first : (c : tie.Start) → Inside (now (c .args .pool)) (getD (now (c .args .pool)) chainWord 0)
 first c = free-inside (now (c .args .pool)) (c .pre .0) (c .pre .1)

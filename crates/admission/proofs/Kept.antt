@@ -15,7 +15,7 @@ use Rattle.pool.specs.Sound.{Lawful, Holds}
 use Rattle.pool.proofs.Read.{one-bag}
 use Rattle.pool.proofs.Sized.{holds-sized}
 use Rattle.calls.proofs.Bags.{lawful-edited}
-use Rattle.door.specs.Promise.{Edits, Tells}
+use Rattle.admission.specs.Promise.{Edits, Tells}
 
 -- ---- a call leaves a lawful bag
 

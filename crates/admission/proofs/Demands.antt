@@ -18,8 +18,8 @@ use Rattle.model.proofs.Bounds.{enough, compared-most}
 use Rattle.pool.specs.Sound.{Holds, Sound}
 use Rattle.pool.proofs.Whole.{nodes-of}
 use Rattle.pool.proofs.Read.{one-pool}
-use Rattle.door.specs.Promise.{Edits, Tells}
-use Rattle.door.proofs.One.{decided}
+use Rattle.admission.specs.Promise.{Edits, Tells}
+use Rattle.admission.proofs.One.{decided}
 
 -- ---- demand 1: a refused call changes no word
 

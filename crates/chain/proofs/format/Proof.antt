@@ -12,14 +12,14 @@ use lib.Seq.{getD-set-same, getD-set-other}
 use Rattle.lists.specs.Lists.{count, from}
 use Rattle.lists.proofs.Counts.{count-out}
 use Rattle.model.specs.Tree.{empty}
 use Rattle.pool.specs.Layout.{rootWord, chainWord, headWords, nodeWords, mostNodes, rootId, words}
 use Rattle.pool.specs.Sound.{nodesIn}
 use Rattle.pool.specs.Parts.{ChainAt}
-use Rattle.pool.specs.Chain.{Gave}
+use Rattle.chain.specs.Chain.{Gave}
 use Rattle.pool.proofs.Whole.{parts-words, lawful-empty}
 use Rattle.pool.proofs.Sized.{Fitting, fits-true}
-use Rattle.pool.proofs.format.Statement.{statement}
-use Rattle.pool.proofs.format.Tie as tie
+use Rattle.chain.proofs.format.Statement.{statement}
+use Rattle.chain.proofs.format.Tie as tie
 
 -- of p nodes those behind k are free, and there is no root
 record Freed (w : List ℕ) (p k : ℕ) : Type 0 where
