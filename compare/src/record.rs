@@ -33,13 +33,14 @@ fn rolled(digest: u64, x: u64) -> u64 {
     spread ^ spread >> 6
 }
 
-/// Writes blocks, each a batch on a pool that is formatted before it: the pool's nodes and the bytes of commands, 4 bytes each and
-/// little-endian, and the commands. What is due for a block: the answers, a digest of the pool's words afterwards in 16 digits, and a
-/// line end.
+/// Writes a line that says how the list was made, then blocks, each a batch on a pool that is formatted before it: the pool's nodes and
+/// the bytes of commands, 4 bytes each and little-endian, and the commands. What is due for a block: the answers, a digest of the
+/// pool's words afterwards in 16 digits, and a line end.
 ///
 /// The commands are a workload's, for an odd block one that fills the pool first. What is due is what the mirror says: the library
 /// has no part in it. Gives the number of commands.
 pub fn write(list: &mut impl Write, due: &mut impl Write) -> Result<u64, Box<dyn std::error::Error>> {
+    writeln!(list, "commands recorded beside the original Rust by `compare record LIST DUE` (compare/src/record.rs), seed {SEED}")?;
     let mut all = 0;
     for (block, (p, most)) in BLOCKS.into_iter().enumerate() {
         let seed = SEED + block as u64;

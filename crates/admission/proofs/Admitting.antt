@@ -70,7 +70,8 @@ module _ {w : List ℕ} {o : Admitted} (O : Tells unknown admitted w o) where
   pub refused-edits : {call : Bag → Outcome} {r : Answer} → (o .number ≡ 0 → ⊥) → r ≡ refused (o .number) → Edits call w r w
   refused-edits {r = r} z e = refused-promise (λ n. (r ≡ refused n) × (w ≡ w)) z (e, refl)
 
-  pub refused-tells : {A : Type 0} (refuse : ℕ → A) {ask : Bag → A} {r : A} → (o .number ≡ 0 → ⊥) → r ≡ refuse (o .number) → Tells refuse ask w r
+  pub refused-tells : {A : Type 0} (refuse : ℕ → A) {ask : Bag → A} {r : A} → (o .number ≡ 0 → ⊥) → r ≡ refuse (o .number)
+      → Tells refuse ask w r
   refused-tells refuse {r = r} z e = refused-promise (λ n. r ≡ refuse n) z e
 
   -- the pool holds a bag, of which this is known

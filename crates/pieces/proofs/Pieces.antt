@@ -11,14 +11,14 @@ use Rattle.lists.specs.Lists.{insertAt, removeAt}
 use Rattle.lists.proofs.Edits.{length-insertAt, length-removeAt}
 use Rattle.words.specs.Words.{run}
 use Rattle.pool.specs.Layout.{nodeWords, start, withBlock, slots, nodeBlock}
-use Rattle.pool.specs.Parts.{Inside, countAt, lengthAt}
+use Rattle.pool.specs.Parts.{Inside, countAt, lengthAt, kidAt}
 use Rattle.pool.proofs.Block.{block-other}
 use Rattle.pool.proofs.Blocks.{length-slots}
 use Rattle.pool.proofs.Store.{run-block, sets-in, set-in, withBlock-same, part, block-put}
 use Rattle.pool.proofs.Slots.{parts}
 use Rattle.pool.proofs.Areas.{Area, elem-area, kid-area, length-parts, area-word, area-read, area-append, area-open, area-close}
 use Rattle.tree.specs.Node.{Node}
-use Rattle.tree.proofs.Standing.{node-count, node-size, lent, lent-count, lent-length, lent-kid}
+use Rattle.tree.proofs.Standing.{node-count, node-size, lent, lent-count, lent-length, node-kid-at}
 use Rattle.pieces.specs.Pieces.{Takes, TookOut, Puts, putIn, Joins, lengthOr, HasSlot}
 
 -- a node has the length that its words say
@@ -91,11 +91,12 @@ module _ {w : List ℕ} {k i j n : ℕ} (s : Puts w k i j n) (a : ℕ) (ea : a �
 
 -- ---- what is below a child slot
 
-module _ {w : List ℕ} {k j : ℕ} (s : HasSlot w k j) (a : ℕ) (ea : a ≡ start k) (y : ℕ) (ey : y ≡ getD (part w a) (33 + j) 0) where
+pub slot-few : {w : List ℕ} {k j : ℕ} → HasSlot w k j → j < 32
+slot-few s = omega (arith, s .place, s .seated .node .few-elems)
+
+module _ {w : List ℕ} {k j : ℕ} (s : HasSlot w k j) (y : ℕ) (ey : y ≡ kidAt w k j) where
   slot-is : y ≡ getD (s .seated .node .kids) j 0
-  slot-is =
-      let m = s .seated .node in
-      ey ∙ lent-kid m a ea j (omega (arith, s .place, m .few-elems))
+  slot-is = ey ∙ node-kid-at (s .seated .node) j (slot-few s)
 
   pub below-none : y ≡ 0 → 0 ≡ lengthOr w (getD (s .seated .node .kids) j 0)
   unfolding lengthOr

@@ -81,8 +81,7 @@ fn length_below(pool: &[u64], k: usize, j: usize) -> usize
     requires { ⌜ HasSlot (now pool) k j ⌝ }
     ensures { λ r. ⌜ ((s : HasSlot (now (pool .entry)) k j) → r ≡ lengthOr (now (pool .entry)) (getD (s .seated .node .kids) j 0)) ⌝ }
 {
-    let a = pool::start_of(k);
-    let y = pool::kid(&pool[a..a + NODE_WORDS], j);
+    let y = pool::kid_at(pool, k, j);
     if y == 0 {
         return 0;
     }

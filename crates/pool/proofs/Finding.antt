@@ -13,24 +13,22 @@ use Rattle.words.specs.Words.{run}
 use Rattle.words.proofs.Laws.{run-length, run-getD, run-snoc}
 use Rattle.model.specs.Tree.{findIn}
 use Rattle.model.proofs.Find.{place, find-unique}
-use Rattle.pool.specs.Layout.{start}
 use Rattle.pool.specs.Parts.{Inside, lengthAt}
 use Rattle.pool.specs.Find.{Inner, kidLengths}
-use Rattle.pool.proofs.Store.{part, block-in}
 
 -- the elements before child c of a node: those of the children before it, and one behind each
 abbrev pub before : List ℕ → List ℕ → ℕ → ℕ
 before w node c = total (lengthAt w) (run node 33 c) + c
 
 module _ (w node : List ℕ) (index : ℕ) (N : Inner w node index) where
-  -- what is read for child c: its id, where it starts, its length
+  -- what is read for child c: its id, its length
   module _ (c k : ℕ) (l : c ≤ getD node 0 0) (ek : k ≡ getD node (33 + c) 0) where
     pub kid-inside : Inside w k
     kid-inside = rw ek (N .kids c (omega arith))
 
-    module _ (a n sub : ℕ) (ea : a ≡ start k) (en : n ≡ getD (part w a) 1 0) (at : index ≡ before w node c + sub) where
+    module _ (n sub : ℕ) (en : n ≡ lengthAt w k) (at : index ≡ before w node c + sub) where
       kid-length : n ≡ lengthAt w (getD node (33 + c) 0)
-      kid-length = rw (block-in w a k ea, ek) at en
+      kid-length = rw ek at en
 
       pub stops : sub ≤ n → place c sub ≡ findIn (kidLengths w node) index
       unfolding kidLengths run

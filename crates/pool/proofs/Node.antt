@@ -12,7 +12,7 @@ use Rattle.model.specs.Tree.{Tree, kid, none, size}
 use Rattle.model.specs.Fit.{Fit}
 use Rattle.model.proofs.Nodes.{most}
 use Rattle.pool.specs.Layout.{block, slots, nodeBlock, freeBlock, idOf, kidIds, rootBlock}
-use Rattle.pool.specs.Parts.{Stored, At, countAt, lengthAt, elemsAt, kidIdsAt}
+use Rattle.pool.specs.Parts.{Stored, At, countAt, lengthAt, kidAt, elemsAt, kidIdsAt}
 use Rattle.pool.specs.Find.{kidLengths, Inner}
 use Rattle.pool.proofs.Block.{length-block}
 use Rattle.pool.proofs.Blocks.{length-slots, most-kids}
@@ -77,7 +77,7 @@ module _ (w : List ℕ) (h : ℕ) (t : Tree h) (S : Stored w (t .id) (rootBlock 
   at-elem i l = rw (S .is) (node-elem (size h t) (t .elems) (kidIds h t) i l)
 
   -- a child's id, and 0 where there is none
-  at-slot : length (t .elems) ≤ 31 → (c : ℕ) → c < 32 → getD (block w (t .id)) (33 + c) 0 ≡ getD (kidIds h t) c 0
+  at-slot : length (t .elems) ≤ 31 → (c : ℕ) → c < 32 → kidAt w (t .id) c ≡ getD (kidIds h t) c 0
   unfolding rootBlock
   at-slot m c l = rw (S .is) (node-kid (size h t) (t .elems) (kidIds h t) m c l)
 
@@ -92,12 +92,12 @@ module _ (w : List ℕ) (h : ℕ) (t : Tree h) (S : Stored w (t .id) (rootBlock 
       at-elem i (omega arith)))
 
 pub at-leaf : (w : List ℕ) (t : Tree 0) → Stored w (t .id) (rootBlock 0 t) → length (t .elems) ≤ 31 → (c : ℕ) → c < 32
-    → getD (block w (t .id)) (33 + c) 0 ≡ 0
+    → kidAt w (t .id) c ≡ 0
 unfolding kidIds
 at-leaf w t S m c l = at-slot w 0 t S m c l
 
 module _ (w : List ℕ) (h : ℕ) (t : Tree (suc h)) (S : Stored w (t .id) (rootBlock (suc h) t)) where
-  pub at-kid : length (t .elems) ≤ 31 → (c : ℕ) → c < 32 → getD (block w (t .id)) (33 + c) 0 ≡ kid h t c .id
+  pub at-kid : length (t .elems) ≤ 31 → (c : ℕ) → c < 32 → kidAt w (t .id) c ≡ kid h t c .id
   unfolding kidIds
   at-kid m c l = at-slot w (suc h) t S m c l ∙ List·getD-map (idOf h) (t .kids) c (none h)
 

@@ -10,7 +10,7 @@ use Rattle.model.specs.Tree.{Tree, kid, none, ids, Root, bare, rooted, Bag, roo
 use Rattle.model.specs.Fit.{Fit, FitRoot}
 use Rattle.pool.specs.Layout.{block, idOf, rootId, words}
 use Rattle.pool.specs.Sound.{Holds, nodesIn}
-use Rattle.pool.specs.Parts.{At, RootAt, treeAt, levelsAt, rootAt, chainAt, bagAt}
+use Rattle.pool.specs.Parts.{At, RootAt, kidAt, treeAt, levelsAt, rootAt, chainAt, bagAt}
 use Rattle.pool.proofs.Cells.{Links}
 use Rattle.pool.proofs.Whole.{nodes-of, holds-parts}
 use Rattle.pool.proofs.Node.{elems-read, kids-read, at-leaf, at-kid, free-link}
@@ -33,12 +33,12 @@ tree-read w (suc h) t F A =
 
 -- ---- its height: a leaf's word 33 is 0, an inner node's is its first child
 
-pub levels-leaf : (n : ℕ) (w : List ℕ) (k : ℕ) → getD (block w k) 33 0 ≡ 0 → levelsAt n w k ≡ 0
+pub levels-leaf : (n : ℕ) (w : List ℕ) (k : ℕ) → kidAt w k 0 ≡ 0 → levelsAt n w k ≡ 0
 unfolding levelsAt
 levels-leaf zero w k e = refl
 levels-leaf (suc n) w k e = rw (e, levelsAt)
 
-pub levels-inner : (n : ℕ) (w : List ℕ) (k c : ℕ) → getD (block w k) 33 0 ≡ c → 1 ≤ c → levelsAt (suc n) w k ≡ suc (levelsAt n w c)
+pub levels-inner : (n : ℕ) (w : List ℕ) (k c : ℕ) → kidAt w k 0 ≡ c → 1 ≤ c → levelsAt (suc n) w k ≡ suc (levelsAt n w c)
 unfolding levelsAt
 levels-inner n w k zero e l = absurd (omega arith)
 levels-inner n w k (suc c) e l = rw (e, levelsAt)

@@ -132,8 +132,7 @@ pub fn find_child_index(pool: &[u64], node: &[u64], index: usize) -> Place
     let mut child = 0;
     let mut sub = index;
     loop {
-        let a = start_of(kid(node, child));
-        let n = len(&pool[a..a + NODE_WORDS]);
+        let n = length_at(pool, kid(node, child));
         if sub <= n {
             return Place {
                 child,

@@ -4,7 +4,7 @@ use mathlib.Core.List.{List, [], _∷_, _++_}
 use mathlib.Core.Logic.{_≢_}
 use Prim.Native.Nat.{ℕ, zero, suc, _+_, _-_, _≤_, _<_}
 use native.Mathlib.Omega.{arith}
-use lib.ListN.{length, getD}
+use lib.ListN.{length}
 use Rattle.lists.specs.Lists.{count}
 use Rattle.lists.proofs.Edits.{length-removeAt}
 use Rattle.lists.proofs.Counts.{count-append, count-self, one-same}
@@ -12,11 +12,10 @@ use Rattle.model.specs.Tree.{Tree, Below, kid, size, flat, ids, Root, bare, roo
 use Rattle.model.specs.Remove.{Shrunk, remove, lowered, bagRemove}
 use Rattle.model.proofs.Nodes.{node, held-id, kids-held, flat-length}
 use Rattle.model.proofs.Remove.{Removed, remove-law}
-use Rattle.pool.specs.Layout.{start, block, rootId}
-use Rattle.pool.specs.Parts.{Inside, ChainAt, countAt}
+use Rattle.pool.specs.Layout.{rootId}
+use Rattle.pool.specs.Parts.{Inside, ChainAt, countAt, kidAt}
 use Rattle.pool.specs.Frame.{Untouched}
 use Rattle.chain.specs.Chain.{Gave}
-use Rattle.pool.proofs.Store.{part, block-in}
 use Rattle.pool.proofs.Node.{at-count, at-kid}
 use Rattle.pool.proofs.Frame.{at-untouched, chain-few, untouched-more, untouched-none, untouched-both}
 use Rattle.tree.specs.declared.Known.{Known}
@@ -123,14 +122,12 @@ module _ {w : List ℕ} {known : Known} (s : LowerReady w known) where
             })
         go (suc h) t z m C U e = absurd (omega arith)
 
-    pub lower-kid : h ≢ 0 → (a : ℕ) → a ≡ start (known .root) → (k : ℕ) → k ≡ getD (part w a) 33 0 → (n : ℕ) → n ≡ known .free + 1
+    pub lower-kid : h ≢ 0 → (k : ℕ) → k ≡ kidAt w (known .root) 0 → (n : ℕ) → n ≡ known .free + 1
         → Became w w₁ (bag (rooted h t) f) (lowered h t f) (record { root = k; levels = h - 1; free = n })
     unfolding rootId levelsOf rootIds
-    lower-kid z a ea k ek n q =
-        go h t z (ek ∙ ap (λ (b : List ℕ). getD b 33 0) (block-in w a (known .root) ea ∙ ap (block w) (sym (s .here)))) (s .frees) freed own empty
-        (s .owns) (s .here)
+    lower-kid z k ek n q = go h t z (ek ∙ ap (λ (j : ℕ). kidAt w j 0) (sym (s .here))) (s .frees) freed own empty (s .owns) (s .here)
       where
-        go : (h : ℕ) (t : Tree h) → h ≢ 0 → k ≡ getD (block w (t .id)) 33 0 → known .free ≡ length f → ChainAt w₁ (t .id ∷ f)
+        go : (h : ℕ) (t : Tree h) → h ≢ 0 → k ≡ kidAt w (t .id) 0 → known .free ≡ length f → ChainAt w₁ (t .id ∷ f)
             → Untouched w w₁ (ids h t ++ f) → length (t .elems) ≡ 0 → Owns w h t f → t .id ≡ known .root
             → Became w w₁ (bag (rooted h t) f) (lowered h t f) (record { root = k; levels = h - 1; free = n })
         go zero t z ek m C U e O p = absurd (z refl)

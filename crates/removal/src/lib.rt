@@ -5,7 +5,6 @@ ghost use Rattle.tree.specs.Stands.{Became};
 ghost use Rattle.removal.specs.Ready.{RemoveReady, Removes, LowerReady, BagHas, BagRemoves};
 ghost use Rattle.removal.specs.Down.{descend, DownReady, Went, UpReady, Up};
 use pool::LENGTH;
-use pool::NODE_WORDS;
 use tree::Known;
 
 // What a removal below a node gives: the element, and how many nodes it freed.
@@ -124,8 +123,7 @@ fn lower(pool: &mut [u64], known: Known) -> Known
     if pool::count_at(pool, known.root) > 0 {
         return known;
     }
-    let a = pool::start_of(known.root);
-    let k = pool::kid(&pool[a..a + NODE_WORDS], 0);
+    let k = pool::kid_at(pool, known.root, 0);
     chain::give_node(pool, known.root);
     let free = known.free + 1;
     if known.levels == 0 {

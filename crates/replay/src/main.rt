@@ -1,5 +1,6 @@
-// Replays commands that were recorded beside the original Rust. Each block of the input is a number of nodes, a number of bytes, 4 bytes
-// each, and so many bytes of commands: they are run on an empty pool, and their answers and a digest of the pool's words are written.
+// Replays commands that were recorded beside the original Rust. The first line of the input says how. Each block after it is a number
+// of nodes, a number of bytes, 4 bytes each, and so many bytes of commands: they are run on an empty pool, and their answers and a digest
+// of the pool's words are written.
 ghost use Prim.Native.Nat.{_+_, _*_, _≤_};
 ghost use lib.ListN.{length};
 ghost use Rattle.io.specs.Counts.{Counts};
@@ -11,6 +12,8 @@ const MOST_INPUT: usize = 131072;
 const MOST_NODES: usize = 60;
 
 const WORDS: usize = HEAD_WORDS + NODE_WORDS * MOST_NODES;
+
+const LINE_END: u8 = 10;
 
 const BLOCK_HEAD: usize = 8;
 
@@ -64,8 +67,22 @@ fn replay(input: &[u8], at: usize) -> usize
     from + n
 }
 
-fn replay_all(input: &[u8]) {
+// The place after the first line.
+fn after_line(input: &[u8]) -> usize
+    ensures { λ r. ⌜ r ≤ length (now (input .entry)) ⌝ }
+{
     let mut at = 0;
+    while at < input.len() {
+        at += 1;
+        if input[at - 1] == LINE_END {
+            return at;
+        }
+    }
+    at
+}
+
+fn replay_all(input: &[u8]) {
+    let mut at = after_line(input);
     while input.len() - at >= BLOCK_HEAD {
         at = replay(input, at);
     }

@@ -10,7 +10,7 @@ use Rattle.model.specs.Tree.{Tree, size}
 use Rattle.model.specs.Fit.{Fit}
 use Rattle.model.proofs.Nodes.{most}
 use Rattle.pool.specs.Layout.{nodeWords, start, withBlock, slots, nodeBlock, kidIds, rootBlock}
-use Rattle.pool.specs.Parts.{Inside, Stored, At, countAt, lengthAt}
+use Rattle.pool.specs.Parts.{Inside, Stored, At, countAt, lengthAt, kidAt}
 use Rattle.pool.proofs.Block.{block-word}
 use Rattle.pool.proofs.Store.{set-block, part, block-in, block-put}
 use Rattle.pool.proofs.Blocks.{length-slots, length-nodeBlock, most-kids}
@@ -43,6 +43,10 @@ node-count m = ap (λ (b : List ℕ). getD b 0 0) (m .stored .is)
 pub node-size : {w : List ℕ} {k : ℕ} (m : Node w k) → lengthAt w k ≡ m .size
 unfolding nodeBlock
 node-size m = ap (λ (b : List ℕ). getD b 1 0) (m .stored .is)
+
+pub node-kid-at : {w : List ℕ} {k : ℕ} (m : Node w k) (c : ℕ) → c < 32 → kidAt w k c ≡ getD (m .kids) c 0
+node-kid-at m c l =
+    ap (λ (b : List ℕ). getD b (33 + c) 0) (m .stored .is) ∙ node-kid (m .size) (m .elems) (m .kids) (m .few-elems) c l
 
 module _ {w : List ℕ} {k : ℕ} (m : Node w k) (a : ℕ) (ea : a ≡ start k) where
   pub lent : part w a ≡ nodeBlock (m .size) (m .elems) (m .kids)

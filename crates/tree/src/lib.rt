@@ -37,8 +37,7 @@ pub fn child(pool: &[u64], k: usize, c: usize) -> usize
     requires { ⌜ HasKid (now pool) k c ⌝ }
     ensures { λ r. ⌜ ((s : HasKid (now (pool .entry)) k c) → r ≡ getD (s .node .kids) c 0) ⌝ }
 {
-    let a = pool::start_of(k);
-    pool::kid(&pool[a..a + NODE_WORDS], c)
+    pool::kid_at(pool, k, c)
 }
 
 // Puts x in the place of element i of node k, and gives the old one.
