@@ -105,6 +105,19 @@ pub fn commands(random: &mut Random, n: u64, count: u64) -> Vec<u8> {
     input
 }
 
+/// Batches that fill a pool of p nodes, by insertions at random or by pushes.
+pub fn filling(random: &mut Random, p: u64) -> Vec<Call> {
+    // A node holds about 21 elements after the first, and 15 after the others.
+    let (any, count) = if random.percent(50) { (true, 22 * p) } else { (false, 16 * p) };
+    let commands: Vec<Vec<u8>> = (0..count)
+        .filter_map(|n| {
+            let x = random.element();
+            bytes(&if any { Call::Insert(random.below(n + 1), x) } else { Call::Push(x) })
+        })
+        .collect();
+    commands.chunks(1000).map(|some| Call::Batch(some.concat(), LONGEST * some.len())).collect()
+}
+
 /// Input that may be cut, or have an unknown kind, or be no commands at all; and room that may be short.
 pub fn batch(random: &mut Random, n: u64, most: u64) -> (Vec<u8>, usize) {
     let count = random.below(most + 1);

@@ -60,10 +60,6 @@ impl Model {
         &self.words
     }
 
-    pub fn touched(&self) -> &[usize] {
-        &self.touched
-    }
-
     pub fn free(&self) -> usize {
         self.free.len()
     }

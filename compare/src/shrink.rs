@@ -8,7 +8,7 @@ const PATIENCE: Duration = Duration::from_secs(60);
 
 /// The first call that differs, and how.
 pub fn run(p: usize, calls: &[Call]) -> Option<(usize, String)> {
-    let mut trial = match Trial::new(p, 1) {
+    let mut trial = match Trial::new(p) {
         Ok(trial) => trial,
         Err(difference) => return Some((0, difference)),
     };

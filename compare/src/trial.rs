@@ -1,4 +1,4 @@
-//! A pool beside its mirror. After each call the answer is compared, and the words.
+//! A pool beside its mirror. After each call all is compared: the answer, every word, the shape that the words hold, and the list.
 use std::panic::{catch_unwind, AssertUnwindSafe};
 
 use crate::bag;
@@ -14,14 +14,9 @@ use crate::sound;
 const GUARD: usize = 8;
 const KEPT: u64 = 0x5A5A_5A5A_5A5A_5A5A;
 
-/// Pools up to this size are compared whole after each call.
-const SMALL: usize = 300;
-
 pub struct Trial {
     store: Vec<u64>,
     pub mirror: Mirror,
-    /// Every so many calls all is compared: every word, the shape, the list.
-    every: u64,
     pub calls: u64,
     pub batches: u64,
     /// How often each number from 0 to 7 was due, one count for a batch or a walk.
@@ -30,12 +25,12 @@ pub struct Trial {
 
 impl Trial {
     /// A pool of p nodes with any old words, formatted.
-    pub fn new(p: usize, every: u64) -> Result<Trial, String> {
+    pub fn new(p: usize) -> Result<Trial, String> {
         let words = bag::words(p);
         let mut store: Vec<u64> = (0..words + 2 * GUARD).map(|i| (i as u64).wrapping_mul(0x9E37_79B9_7F4A_7C15)).collect();
         store[..GUARD].fill(KEPT);
         store[GUARD + words..].fill(KEPT);
-        let mut trial = Trial { store, mirror: Mirror::new(p), every, calls: 0, batches: 0, numbers: [0; 8] };
+        let mut trial = Trial { store, mirror: Mirror::new(p), calls: 0, batches: 0, numbers: [0; 8] };
         trial.make(&Call::Format)?;
         Ok(trial)
     }
@@ -68,49 +63,25 @@ impl Trial {
             }
         };
         self.numbers[number as usize] += 1;
-        self.compare(call)
+        self.compare()
     }
 
-    fn compare(&mut self, call: &Call) -> Result<(), String> {
+    fn compare(&self) -> Result<(), String> {
         let words = self.store.len() - 2 * GUARD;
         if self.store[..GUARD].iter().chain(&self.store[GUARD + words..]).any(|w| *w != KEPT) {
             return Err("a word outside the pool is changed".to_string());
         }
-        let all = self.calls % self.every == 0 || matches!(call, Call::Batch(..) | Call::Format);
         let Mirror { tree, list, model, .. } = &self.mirror;
         let pool = &self.store[GUARD..GUARD + words];
         let due = model.words();
-        if all || words <= bag::words(SMALL) {
-            if let Some(i) = (pool != due).then(|| (0..words).find(|i| pool[*i] != due[*i])).flatten() {
-                return Err(format!("word {i} of the pool is {}, due is {}", pool[i], due[i]));
-            }
+        if let Some(i) = (pool != due).then(|| (0..words).find(|i| pool[*i] != due[*i])).flatten() {
+            return Err(format!("word {i} of the pool is {}, due is {}", pool[i], due[i]));
         }
-        for k in model.touched() {
-            let node = sound::at(*k as u64, 0)..sound::at(*k as u64, sound::NODE_WORDS);
-            if pool[..2] != due[..2] || pool[node.clone()] != due[node] {
-                return Err(format!("the head or node {k} is not as due"));
-            }
-        }
-        if all && !sound::same_shape(pool, pool[0], tree.shape()) {
+        if !sound::same_shape(pool, pool[0], tree.shape()) {
             return Err("the shape is not the original's".to_string());
         }
-        if all && sound::list(pool) != *list {
+        if sound::list(pool) != *list {
             return Err("the list is not Vec's".to_string());
-        }
-        if let Call::Insert(index, _) | Call::Remove(index) | Call::Replace(index, _) = call {
-            return self.changed_part(*index);
-        }
-        Ok(())
-    }
-
-    /// The elements around an edit, as the words have them.
-    fn changed_part(&mut self, index: u64) -> Result<(), String> {
-        let n = self.mirror.len();
-        for i in index.saturating_sub(2)..index.saturating_add(3).min(n) {
-            let word = sound::find(self.pool(), i).word;
-            if self.pool()[word] != self.mirror.list[i as usize] {
-                return Err(format!("element {i} is not Vec's"));
-            }
         }
         Ok(())
     }

@@ -9,7 +9,7 @@ use compare::refusals::{try_damage, try_lengths, Finding};
 use compare::shrink::{run, shrink};
 use compare::trial::Trial;
 use compare::workload::Workload;
-use compare::{program, record};
+use compare::{batches, program, record};
 
 #[derive(Default)]
 struct Tally {
@@ -33,21 +33,22 @@ struct Plan {
 const SHORT: Plan = Plan { calls: 400_000, damaged: 40_000, programs: 400 };
 const LONG: Plan = Plan { calls: 20_000_000, damaged: 1_000_000, programs: 10_000 };
 
-/// A sequence of calls on a pool of p nodes, with damage now and then to a copy of it.
+/// A sequence of calls on a pool of p nodes, with damage now and then to a copy of it. The largest pools are filled by batches first.
 fn sequence(p: usize, seed: u64, calls: u64, damages: u64, tally: &mut Tally) {
-    let every = if p <= 40 { 1 } else { (p as u64 / 16).next_power_of_two() };
-    let fills = p > 300 || seed % 3 == 0;
+    let large = p > 300;
+    let fills = !large && seed % 3 == 0;
     let calls = if fills { calls + 28 * p as u64 } else { calls };
     let mut workload = if fills { Workload::full(seed, 10, p as u64) } else { Workload::new(seed, 20) };
+    let mut filling = if large { batches::filling(&mut Random::new(seed), p as u64) } else { Vec::new() }.into_iter();
     let mut trace = Vec::new();
     let damage = &mut Random::new(seed ^ 0xDA3A6E);
-    let mut trial = match Trial::new(p, every) {
+    let mut trial = match Trial::new(p) {
         Ok(trial) => trial,
         Err(difference) => return report(p, seed, Vec::new(), &difference, tally),
     };
     let turn = calls / (damages + 1) + 1;
     while trial.calls < calls {
-        let call = workload.next(&trial.mirror);
+        let call = filling.next().unwrap_or_else(|| workload.next(&trial.mirror));
         trace.push(call);
         if let Err(difference) = trial.make(&trace[trace.len() - 1]) {
             report(p, seed, trace, &difference, tally);
