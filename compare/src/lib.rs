@@ -10,6 +10,7 @@ pub mod program;
 pub mod random;
 pub mod record;
 pub mod refusals;
+#[rustfmt::skip] // It is the original, unchanged.
 pub mod sequence_tree;
 pub mod shrink;
 pub mod sound;
