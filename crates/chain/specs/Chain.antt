@@ -14,10 +14,14 @@ pub record Free (w : List ℕ) (f : List ℕ) : Type 0 where
   pub once : (k : ℕ) → count k f ≤ 1
   pub some : 0 < length f
 
--- the first free node is r: it leaves the chain, all its words 0
+-- all words of node k are 0
+abbrev pub Blank : List ℕ → ℕ → Type 0
+Blank w k = Stored w k (replicate nodeWords 0)
+
+-- the first free node is r: it leaves the chain, and is blank
 pub record Took (w : List ℕ) (f : List ℕ) (r : ℕ) (w′ : List ℕ) : Type 0 where
   pub first : r ≡ getD f 0 0
-  pub clean : Stored w′ r (replicate nodeWords 0)
+  pub clean : Blank w′ r
   pub chain : ChainAt w′ (drop 1 f)
   pub untouched : Untouched w w′ (r ∷ [])
 

@@ -26,7 +26,7 @@ use Rattle.tree.specs.Lookup.{Above}
 use Rattle.tree.proofs.Standing.{nodeOf}
 use Rattle.tree.proofs.Getting.{Turned}
 use Rattle.tree.proofs.Edits.{node-untouched, root-reshaped, owns-kid, root-apart, kid-reshaped, reshaped-none, owns-after, reshaped-both, owns-above}
-use Rattle.insertion.specs.Nodes.{Takes, Counts}
+use Rattle.insertion.specs.Nodes.{HasRoom, Counts}
 use Rattle.split.specs.Ready.{SplitReady}
 use Rattle.insertion.specs.declared.Entry.{Entry}
 use Rattle.insertion.specs.Ready.{InsertReady}
@@ -102,7 +102,7 @@ leaf-upto : {w : List ℕ} {id index : ℕ} (i : InsertReady w 0 id index) → i
 unfolding size
 leaf-upto i = i .upto
 
-abbrev leaf-takes : {w : List ℕ} {id index : ℕ} → InsertReady w 0 id index → Takes w id index
+abbrev leaf-takes : {w : List ℕ} {id index : ℕ} → InsertReady w 0 id index → HasRoom w id index
 leaf-takes i = record {
   node = nodeOf 0 (i .tree) (i .here) (i .owns .at) (i .owns .fit);
   place = leaf-upto i;
@@ -115,7 +115,7 @@ leaf-block : (t : Tree 0) (es : List ℕ) → length es ≡ length (t .elems) + 
 unfolding rootBlock size kidIds
 leaf-block t es l = ap (λ (n : ℕ). nodeBlock n es []) (sym l)
 
-leaf-inserted : {w w′ : List ℕ} {id index : ℕ} (i : InsertReady w 0 id index) (x : ℕ) → ((s : Takes w id index)
+leaf-inserted : {w w′ : List ℕ} {id index : ℕ} (i : InsertReady w 0 id index) (x : ℕ) → ((s : HasRoom w id index)
     → w′ ≡ withBlock w id (nodeBlock (s .node .size + 1) (insertAt (s .node .elems) index x) (s .node .kids)))
     → InsertsBelow w w′ 0 (i .tree) (i .free) index x 0
 unfolding insertNonFull neededBelow
@@ -242,11 +242,11 @@ abbrev RoomMade : List ℕ → List ℕ → ℕ → ℕ → Entry → Type 0
 RoomMade w w′ id index r = (q : RoomReady w id index) → MakesRoom w w′ (q .height) (q .ready .tree) (q .ready .free) index r
 
 module _ {w : List ℕ} {id index : ℕ} where
-  pub as-leaf : (levels : ℕ) → levels ≡ 0 → InsertReady w levels id index → Takes w id index
+  pub as-leaf : (levels : ℕ) → levels ≡ 0 → InsertReady w levels id index → HasRoom w id index
   as-leaf zero e i = leaf-takes i
   as-leaf (suc h) e i = absurd (omega arith)
 
-  pub leaf-done : (levels : ℕ) → levels ≡ 0 → (w′ : List ℕ) (x : ℕ) → ((s : Takes w id index)
+  pub leaf-done : (levels : ℕ) → levels ≡ 0 → (w′ : List ℕ) (x : ℕ) → ((s : HasRoom w id index)
       → w′ ≡ withBlock w id (nodeBlock (s .node .size + 1) (insertAt (s .node .elems) index x) (s .node .kids)))
       → BelowDone w w′ levels id index x 0
   leaf-done zero e w′ x d i = leaf-inserted i x d

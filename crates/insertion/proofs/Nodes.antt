@@ -13,9 +13,9 @@ use Rattle.pool.specs.Layout.{nodeWords, start, withBlock, slots, nodeBlock}
 use Rattle.pool.proofs.Store.{set-block, part}
 use Rattle.pool.proofs.Areas.{elem-area, area-open}
 use Rattle.tree.proofs.Standing.{lent, length-word, counted, came-back}
-use Rattle.insertion.specs.Nodes.{Takes, Counts}
+use Rattle.insertion.specs.Nodes.{HasRoom, Counts}
 
-module _ {w : List ℕ} {k i : ℕ} (s : Takes w k i) (a : ℕ) (ea : a ≡ start k) where
+module _ {w : List ℕ} {k i : ℕ} (s : HasRoom w k i) (a : ℕ) (ea : a ≡ start k) where
   pub element-put : (x : ℕ) (p : List ℕ)
       → p ≡ sets (part w a) (2 + i) (x ∷ run (part w a) (2 + i) (2 + getD (part w a) 0 0 - (2 + i)))
       → putMid a (a + nodeWords - a) w (set (set p 0 (getD (part w a) 0 0 + 1)) 1 (getD (part w a) 1 0 + 1))

@@ -1,6 +1,6 @@
 -- The whole list: its root, and the nodes that an insertion needs.
 use mathlib.Core.Path.{_≡_, refl, sym, ap, _∙_}
-use mathlib.Core.Bool.{Bool, true, false}
+use mathlib.Core.Bool.{Bool, true, false, cond}
 use mathlib.Core.List.{List}
 use mathlib.Core.Logic.{_≢_}
 use Prim.Native.Nat.{ℕ, _+_, _^_, _≤_, _<_}
@@ -9,7 +9,7 @@ use borrow.Author.Tests.{le-ltb}
 use lib.Dec.{ltb}
 use lib.ListN.{length}
 use Rattle.model.specs.Tree.{Tree, size, Root}
-use Rattle.model.specs.Insert.{isFull, needed}
+use Rattle.model.specs.Insert.{isFull, neededBelow, needed}
 use Rattle.model.proofs.Bounds.{root-levels, needed-below, needed-most}
 use Rattle.tree.specs.declared.Known.{Known}
 use Rattle.tree.specs.Node.{Node}
@@ -60,22 +60,25 @@ module _ {w : List ℕ} {known : Known} {index : ℕ} (b : BagReady w known inde
 
   -- ---- the nodes needed
 
+  module _ (a : Bool) (A : Told w (known .root) a) where
+    pub is-full-root : isFull h t ≡ a
+    unfolding isFull
+    is-full-root = sym (A root-node)
+
+    pub root-needs : needed (b .bag .root) index ≡ cond a 2 0 + neededBelow h t index
+    unfolding needed
+    root-needs = ap (λ (r : Root). needed r index) (R .is) ∙ rw is-full-root refl
+
   module _ (n : ℕ) (N : Needs w (known .levels) (known .root) index n) where
     pub root-few : n ≤ known .levels
     root-few = rw (N root-upto) (needed-below h t index)
 
     module _ (a : Bool) (A : Told w (known .root) a) where
-      full-root : isFull h t ≡ a
-      unfolding isFull
-      full-root = sym (A root-node)
+      pub two-more : a ≡ true → 2 + n ≡ needed (b .bag .root) index
+      two-more e = omega (arith, N root-upto, rw e at (root-needs a A))
 
-      pub needs-two : a ≡ true → 2 + n ≡ needed (b .bag .root) index
-      unfolding needed
-      needs-two e = ap (λ (m : ℕ). 2 + m) (N root-upto) ∙ sym (ap (λ (r : Root). needed r index) (R .is) ∙ rw (full-root ∙ e) refl)
-
-      pub needs-none : a ≡ false → n ≡ needed (b .bag .root) index
-      unfolding needed
-      needs-none e = N root-upto ∙ sym (ap (λ (r : Root). needed r index) (R .is) ∙ rw (full-root ∙ e) (omega arith))
+      pub none-more : a ≡ false → n ≡ needed (b .bag .root) index
+      none-more e = omega (arith, N root-upto, rw e at (root-needs a A))
 
 pub needs-one : {w : List ℕ} {known : Known} {index : ℕ} → known .root ≡ 0 → (b : BagReady w known index) → 1 ≡ needed (b .bag .root) index
 unfolding needed

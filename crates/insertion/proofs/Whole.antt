@@ -1,6 +1,6 @@
 -- Insertion into the whole list: refused, into an empty list, under a root with room, and under a full root.
 use mathlib.Core.Path.{_≡_, refl, sym, ap, subst, _∙_}
-use mathlib.Core.Bool.{Bool, true, false, cond}
+use mathlib.Core.Bool.{Bool, true, false}
 use mathlib.Core.List.{List, [], _∷_, _++_}
 use mathlib.Core.Logic.{_≢_}
 use Prim.Native.Nat.{ℕ, suc, _+_, _-_, _≤_, _<_}
@@ -12,7 +12,7 @@ use lib.ListN.{length, getD, drop, length-drop}
 use Rattle.lists.specs.Lists.{count, insertAt}
 use Rattle.lists.proofs.Counts.{count-append, count-first, one-same}
 use Rattle.model.specs.Tree.{Tree, size, ids, Root, Bag, rootIds, levelsOf}
-use Rattle.model.specs.Insert.{isFull, Grown, insertNonFull, neededBelow, needed, aboveRoot, grownBag, bagInsert}
+use Rattle.model.specs.Insert.{Grown, insertNonFull, neededBelow, needed, aboveRoot, grownBag, bagInsert}
 use Rattle.model.proofs.Nodes.{node, most}
 use Rattle.model.proofs.Insert.{full, not-full}
 use Rattle.model.proofs.Bags.{bag-insert, Lifted, lift-law, bag-bare, bag-room, bag-full}
@@ -26,13 +26,13 @@ use Rattle.tree.specs.declared.Known.{Known}
 use Rattle.tree.specs.Stands.{Became}
 use Rattle.tree.proofs.Rooting.{Rooted, is-bare}
 use Rattle.split.specs.Ready.{RaiseReady, Raised}
-use Rattle.insertion.specs.Nodes.{Takes}
+use Rattle.insertion.specs.Nodes.{HasRoom}
 use Rattle.insertion.specs.Ready.{InsertReady, BagReady, Inserts}
 use Rattle.insertion.specs.Steps.{InsertsBelow}
 use Rattle.insertion.proofs.Needing.{Told}
 use Rattle.insertion.proofs.Inserting.{BelowDone}
 use Rattle.insertion.proofs.Rooms.{insert-id}
-use Rattle.insertion.proofs.Rooting.{free-count, root-of, index-upto, root-node, needs-one}
+use Rattle.insertion.proofs.Rooting.{free-count, root-of, index-upto, is-full-root, root-needs, needs-one}
 
 -- the bag that b became has this root and these free nodes
 grown : {w w′ : List ℕ} {b d : Bag} (h : ℕ) (g : Grown (Tree h)) (k : Known) → d ≡ grownBag h g → k .root ≡ g .tree .id → k .levels ≡ h
@@ -96,7 +96,7 @@ module _ {w : List ℕ} {known : Known} {index : ℕ} (x : ℕ) (a : Bool)
         unfolding nodeBlock
         clean = T .clean
 
-        abbrev pub blank-takes : Takes w₁ root 0
+        abbrev pub blank-takes : HasRoom w₁ root 0
         blank-takes = record {
           node = record { size = 0; elems = []; kids = []; stored = clean; few-elems = omega arith; few-kids = omega arith };
           place = omega arith;
@@ -104,7 +104,7 @@ module _ {w : List ℕ} {known : Known} {index : ℕ} (x : ℕ) (a : Bool)
           small = omega arith;
         }
 
-        pub bare-inserted : (w₂ : List ℕ) → ((s : Takes w₁ root 0)
+        pub bare-inserted : (w₂ : List ℕ) → ((s : HasRoom w₁ root 0)
             → w₂ ≡ withBlock w₁ root (nodeBlock (s .node .size + 1) (insertAt (s .node .elems) 0 x) (s .node .kids)))
             → Inserts w w₂ (b .bag) index x known
             (record { done = true; known = record { root = root; levels = 0; free = known .free - 1 } })
@@ -139,14 +139,6 @@ module _ {w : List ℕ} {known : Known} {index : ℕ} (x : ℕ) (a : Bool)
       abbrev g : List ℕ
       g = b .bag .free
 
-      pub is-full-root : isFull h t ≡ d
-      unfolding isFull
-      is-full-root = sym (D (root-node b ne))
-
-      root-needs : needed (b .bag .root) index ≡ cond d 2 0 + neededBelow h t index
-      unfolding needed
-      root-needs = ap (λ (r : Root). needed r index) (R .is) ∙ rw is-full-root refl
-
       -- the caller's nodes
       all : {w′ : List ℕ} → Untouched w w′ (ids h t ++ g) → Untouched w w′ (rootIds (b .bag .root) ++ g)
       unfolding rootIds
@@ -155,7 +147,7 @@ module _ {w : List ℕ} {known : Known} {index : ℕ} (x : ℕ) (a : Bool)
       -- that has room
       module _ (q : d ≡ false) where
         pub needs-below : needed (b .bag .root) index ≡ neededBelow h t index
-        needs-below = omega (arith, rw q at root-needs)
+        needs-below = omega (arith, rw q at (root-needs b ne d D))
 
         abbrev pub room-ready : InsertReady w (known .levels) (known .root) index
         room-ready = record {
@@ -164,7 +156,7 @@ module _ {w : List ℕ} {known : Known} {index : ℕ} (x : ℕ) (a : Bool)
           owns = R .owns;
           here = R .here;
           some = R .some;
-          room = not-full h t (is-full-root ∙ q);
+          room = not-full h t (is-full-root b ne d D ∙ q);
           upto = index-upto b ne;
           enough = omega (arith, enough, needs-below);
         }
@@ -179,20 +171,20 @@ module _ {w : List ℕ} {known : Known} {index : ℕ} (x : ℕ) (a : Bool)
               let Q = C room-ready .grew in
               accepts
               (grown h (insertNonFull h t index x g) (record { root = known .root; levels = known .levels; free = known .free - n })
-              (bag-room (b .bag) index x h t (R .is) (is-full-root ∙ q)) (sym (insert-id h t index x g ∙ R .here)) refl
+              (bag-room (b .bag) index x h t (R .is) (is-full-root b ne d D ∙ q)) (sym (insert-id h t index x g ∙ R .here)) refl
               (left (known .free - n) (omega (arith, room-left, C room-ready .taken, needs-below)))
               (Q .at) (Q .chain) (all (Q .untouched)))
 
       -- that is full
       module _ (q : d ≡ true) where
         pub needs-two : needed (b .bag .root) index ≡ 2 + neededBelow h t index
-        needs-two = rw q at root-needs
+        needs-two = rw q at (root-needs b ne d D)
 
         pub two-free : 2 ≤ known .free
         two-free = omega (arith, enough, needs-two, free-count b)
 
         pub root-full : length (t .elems) ≡ 31
-        root-full = omega (arith, full h t (is-full-root ∙ q), most h t (R .owns .fit))
+        root-full = omega (arith, full h t (is-full-root b ne d D ∙ q), most h t (R .owns .fit))
 
         abbrev pub raise-ready : RaiseReady w (known .root)
         raise-ready = record {
@@ -250,7 +242,7 @@ module _ {w : List ℕ} {known : Known} {index : ℕ} (x : ℕ) (a : Bool)
                 accepts
                 (grown (suc h) (insertNonFull (suc h) u index x (drop 2 g))
                 (record { root = root; levels = known .levels + 1; free = known .free - 2 - n })
-                (bag-full (b .bag) index x h t (R .is) (is-full-root ∙ q))
+                (bag-full (b .bag) index x h t (R .is) (is-full-root b ne d D ∙ q))
                 (raised .first ∙ sym (insert-id (suc h) u index x (drop 2 g) ∙ lifted .id)) (add-one h)
                 (left (known .free - 2 - n) (omega (arith, full-left, two-free, below .taken, lifted .need, needs-two)))
                 (Q .at) (Q .chain)

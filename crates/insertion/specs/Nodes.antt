@@ -5,7 +5,7 @@ use lib.ListN.{length}
 use Rattle.tree.specs.Node.{Node}
 
 -- node k has room for an element at place i
-pub record Takes (w : List ℕ) (k i : ℕ) : Type 0 where
+pub record HasRoom (w : List ℕ) (k i : ℕ) : Type 0 where
   pub node : Node w k
   pub place : i ≤ length (node .elems)
   pub room : length (node .elems) < 31

@@ -7,7 +7,7 @@ ghost use Rattle.lists.specs.Lists.{insertAt};
 ghost use Rattle.model.specs.Insert.{neededBelow, needed as neededFor};
 ghost use Rattle.pool.specs.Layout.{nodeBlock, withBlock};
 ghost use Rattle.tree.specs.Node.{Node};
-ghost use Rattle.insertion.specs.Nodes.{Takes, Counts};
+ghost use Rattle.insertion.specs.Nodes.{HasRoom, Counts};
 ghost use Rattle.insertion.specs.Ready.{InsertReady, BagReady, Inserts};
 ghost use Rattle.insertion.specs.Steps.{RoomReady, MakesRoom, InsertsBelow, Upto};
 use pool::COUNT;
@@ -29,7 +29,6 @@ pub struct Entry {
     pub taken: usize,
 }
 
-// Whether node k is full.
 fn is_full(pool: &[u64], k: usize) -> bool
     requires { ⌜ Node (now pool) k ⌝ }
     ensures { λ r. ⌜ ((m : Node (now (pool .entry)) k) → r ≡ leb 31 (length (m .elems))) ⌝ }
@@ -40,8 +39,8 @@ fn is_full(pool: &[u64], k: usize) -> bool
 
 // Puts x into node k, as its element i.
 fn put_element(pool: &mut [u64], k: usize, i: usize, x: u64)
-    requires { ⌜ Takes (now pool) k i ⌝ }
-    ensures { λ _. ⌜ ((s : Takes (now (pool .entry)) k i) → now (pool .exit) ≡ withBlock (now (pool .entry)) k
+    requires { ⌜ HasRoom (now pool) k i ⌝ }
+    ensures { λ _. ⌜ ((s : HasRoom (now (pool .entry)) k i) → now (pool .exit) ≡ withBlock (now (pool .entry)) k
         (nodeBlock (s .node .size + 1) (insertAt (s .node .elems) i x) (s .node .kids))) ⌝ }
 {
     let a = pool::start_of(k);

@@ -12,12 +12,12 @@ use Rattle.pool.specs.Parts.{countAt, kidAt, kidIdsAt, treeAt}
 use Rattle.marks.specs.Marks.{seen}
 
 -- r says whether P
-pub record Tells (r : Bool) (P : Type 0) : Type 0 where
+pub record Decides (r : Bool) (P : Type 0) : Type 0 where
   pub good : r ≡ true → P
   pub bad : r ≡ false → P → ⊥
 
 -- a pool of p nodes, and marks for all of them
-pub record Room (w : List ℕ) (p : ℕ) (m : List ℕ) : Type 0 where
+pub record MarksFit (w : List ℕ) (p : ℕ) (m : List ℕ) : Type 0 where
   pub exact : length w ≡ headWords + nodeWords * p
   pub marks : p ≤ 64 * length m
 

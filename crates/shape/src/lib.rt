@@ -7,7 +7,7 @@ ghost use Prim.Native.Nat.{_+_, _*_, _^_, _<_, _≤_};
 ghost use lib.ListN.{length};
 ghost use Rattle.pool.specs.Layout.{headWords, nodeWords};
 ghost use Rattle.pool.specs.Parts.{countAt, levelsAt};
-ghost use Rattle.shape.specs.Shape.{Tells, Room, InReach, Shapes, Sturdy, Grows, GrowsKids};
+ghost use Rattle.shape.specs.Shape.{Decides, MarksFit, InReach, Shapes, Sturdy, Grows, GrowsKids};
 
 // How many elements a node has: the least of a root, of any other node, and the most.
 const LEAST_ROOT: usize = 1;
@@ -39,7 +39,7 @@ pub fn depth(pool: &[u64], p: usize, k: usize) -> usize
 // Whether node k is one of the pool, and has `least` to 31 elements.
 fn sturdy(pool: &[u64], p: usize, k: usize, least: usize) -> bool
     requires { ⌜ length (now pool) ≡ headWords + nodeWords * p ⌝ }
-    ensures { λ r. ⌜ Tells r (Sturdy (now (pool .entry)) p least k) ⌝ }
+    ensures { λ r. ⌜ Decides r (Sturdy (now (pool .entry)) p least k) ⌝ }
 {
     if k == 0 || p < k {
         return false;
@@ -51,7 +51,7 @@ fn sturdy(pool: &[u64], p: usize, k: usize, least: usize) -> bool
 // Whether p nodes can hold the fewest elements of a tree of `levels` inner levels: 2 · 16 ^ levels - 1. No power is taken that could wrap.
 fn within_reach(p: usize, levels: usize) -> bool
     requires { ⌜ 31 * p + 1 < 2 ^ 64 ⌝ }
-    ensures { λ r. ⌜ Tells r (InReach p levels) ⌝ }
+    ensures { λ r. ⌜ Decides r (InReach p levels) ⌝ }
 {
     let mut left = (MOST * p + 1) / (LEAST_ROOT + 1);
     let mut rest = levels;
@@ -65,7 +65,7 @@ fn within_reach(p: usize, levels: usize) -> bool
 // Whether the tree at node k, of `levels` inner levels, is well grown, and its nodes were not met. Marks them.
 // The levels are few, whatever the words, and so is the stack that this takes.
 fn grown(pool: &[u64], p: usize, marks: &mut [u64], k: usize, levels: usize, least: usize) -> bool
-    requires { ⌜ Room (now pool) p (now marks) ⌝ }
+    requires { ⌜ MarksFit (now pool) p (now marks) ⌝ }
     requires { ⌜ InReach p levels ⌝ }
     ensures { λ r. ⌜ Grows r (now (pool .entry)) p levels least k (now (marks .entry)) (now (marks .exit)) ⌝ }
 {
@@ -84,7 +84,7 @@ fn grown(pool: &[u64], p: usize, marks: &mut [u64], k: usize, levels: usize, lea
 
 // The same of the children of node k, of `levels` inner levels each.
 fn grown_kids(pool: &[u64], p: usize, marks: &mut [u64], k: usize, levels: usize) -> bool
-    requires { ⌜ Room (now pool) p (now marks) ⌝ }
+    requires { ⌜ MarksFit (now pool) p (now marks) ⌝ }
     requires { ⌜ (1 ≤ k) × (k ≤ p) × (countAt (now pool) k ≤ 31) ⌝ }
     requires { ⌜ InReach p levels ⌝ }
     ensures { λ r. ⌜ GrowsKids r (now (pool .entry)) p levels k (now (marks .entry)) (now (marks .exit)) ⌝ }
@@ -102,7 +102,7 @@ fn grown_kids(pool: &[u64], p: usize, marks: &mut [u64], k: usize, levels: usize
 
 // Whether the tree at node k is well shaped. Where nothing was marked before, its nodes are marked now.
 pub fn shape(pool: &[u64], p: usize, marks: &mut [u64], k: usize, levels: usize) -> bool
-    requires { ⌜ Room (now pool) p (now marks) ⌝ }
+    requires { ⌜ MarksFit (now pool) p (now marks) ⌝ }
     ensures { λ r. ⌜ Shapes r (now (pool .entry)) p levels k (now (marks .entry)) (now (marks .exit)) ⌝ }
 {
     if !within_reach(p, levels) {

@@ -18,7 +18,7 @@ use Rattle.pool.specs.Find.{kidLengths}
 use Rattle.pool.proofs.Block.{length-block}
 use Rattle.pool.proofs.Node.{at-count, at-length, at-elem, at-link, at-leaf, at-kid, kids-read, kid-lengths}
 use Rattle.pool.proofs.Runs.{block-is}
-use Rattle.shape.specs.Shape.{Tells, Grown, below}
+use Rattle.shape.specs.Shape.{Decides, Grown, below}
 use Rattle.shape.proofs.Growth.{tree-id, elems-long, ids-long, kids-of, all-kids, kids-all, ids-leaf, ids-inner, all-below, inside, here}
 use Rattle.sound.specs.Filled.{Clear, Readable, kidsAt, AddsUp, Filled}
 
@@ -38,7 +38,7 @@ module _ (w : List ℕ) (k : ℕ) where
   unfolding kidsAt
   kids-inner n = rw (ne-eqb (kidAt w k 0) 0 n)
 
-  pub not-filled : (Filled w k → ⊥) → Tells false (Filled w k)
+  pub not-filled : (Filled w k → ⊥) → Decides false (Filled w k)
   not-filled f = record { good = λ t. absurd (false≢true t); bad = λ t. f }
 
   module _ (R : Readable w k) where
@@ -48,7 +48,7 @@ module _ (w : List ℕ) (k : ℕ) where
       leaf-length n F = n (omega (arith, rw (kids-leaf e) at (F .total)))
 
       pub leaf-filled : lengthAt w k ≡ countAt w k → {r : Bool}
-          → Tells r (Clear (block w k) (2 + countAt w k) nodeWords) → Tells r (Filled w k)
+          → Decides r (Clear (block w k) (2 + countAt w k) nodeWords) → Decides r (Filled w k)
       unfolding sum
       leaf-filled q T = record {
         good = λ t. record {
@@ -70,7 +70,7 @@ module _ (w : List ℕ) (k : ℕ) where
       inner-kids f F = f (λ i a b. F .kids i (omega (arith, kids-many)) b)
 
       pub inner-filled : Clear (block w k) (2 + countAt w k) 33 → Clear (block w k) (33 + countAt w k + 1) nodeWords → {r : Bool}
-          → Tells r (AddsUp w k (kidIdsAt w k)) → Tells r (Filled w k)
+          → Decides r (AddsUp w k (kidIdsAt w k)) → Decides r (Filled w k)
       inner-filled C D T = record {
         good = λ t. record {
           elems = C;

@@ -17,7 +17,7 @@ use Rattle.pool.proofs.Node.{at-leaf}
 use Rattle.pool.proofs.Read.{tree-read}
 use Rattle.marks.specs.Marks.{seen}
 use Rattle.marks.proofs.Laws.{seen-lt}
-use Rattle.shape.specs.Shape.{Tells, Ends, WellShaped, Grown, Shapes}
+use Rattle.shape.specs.Shape.{Decides, Ends, WellShaped, Grown, Shapes}
 use Rattle.shape.proofs.Growth.{tree-id, in-from, grown-nodes, shape-grown, shape-levels}
 use Rattle.sound.specs.declared.Part.the-variants.{Wrong, Right}
 use Rattle.sound.specs.Filled.{Readable, Filled}
@@ -96,7 +96,7 @@ module _ (w : List ℕ) (p : ℕ) (exact : length w ≡ headWords + nodeWords * 
         pub readable : (j : ℕ) → 1 ≤ j → j ≤ p → seen m₁ j ≡ 1 → Readable w j
         readable j l n e = counted (grown-nodes w p exact (Readable w) (grown-reads w p exact) h 1 k grown) j (omega (arith, marked j l))
 
-        module _ (q : Bool) (T : Tells q ((j : ℕ) → 1 ≤ j → j ≤ p → seen m₁ j ≡ 1 → Filled w j)) where
+        module _ (q : Bool) (T : Decides q ((j : ℕ) → 1 ≤ j → j ≤ p → seen m₁ j ≡ 1 → Filled w j)) where
           pub not-filled : q ≡ false → Trees Wrong w p m m₁
           not-filled f = wrong (M .long) (λ u P.
               let fs = at-filled w h (treeAt w h k) (M .good t .0 .fit .fit) (only u P .1) in

@@ -18,7 +18,7 @@ use Rattle.pool.proofs.Whole.{parts-holds, holds-parts}
 use Rattle.pool.proofs.Sized.{fits-of, holds-sized}
 use Rattle.pool.proofs.Read.{root-read, chain-read, one-bag}
 use Rattle.marks.specs.Marks.{seen}
-use Rattle.shape.specs.Shape.{Tells}
+use Rattle.shape.specs.Shape.{Decides}
 use Rattle.shape.proofs.Growth.{in-from}
 use Rattle.sound.specs.declared.Part.{Part}
 use Rattle.sound.specs.declared.Part.the-variants.{Wrong, Right}
@@ -93,7 +93,7 @@ module _ (w : List ℕ) (p : ℕ) (exact : length w ≡ headWords + nodeWords * 
           let H = s .1 in
           C .bad f (s .0 .free) (held H .1 .chain) (λ j l. omega (arith, same-root H j l, held H .0 .once j, count-from j 1 p)))
 
-      module _ (n : ℕ) (f : q ≡ Right n) (t : Bool) (A : Tells t ((k : ℕ) → 1 ≤ k → k ≤ p → seen m₂ k ≡ 1)) where
+      module _ (n : ℕ) (f : q ≡ Right n) (t : Bool) (A : Decides t ((k : ℕ) → 1 ≤ k → k ≤ p → seen m₂ k ≡ 1)) where
         abbrev chain : ChainFound n w m₁ m₂
         chain = C .good n f
 

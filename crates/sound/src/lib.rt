@@ -21,7 +21,7 @@ ghost use lib.ListN.{length};
 ghost use Rattle.pool.specs.Layout.{nodeWords, block};
 ghost use Rattle.pool.specs.Parts.{Inside, countAt, kidAt, kidIdsAt};
 ghost use Rattle.marks.specs.Marks.{seen};
-ghost use Rattle.shape.specs.Shape.{Tells, Room};
+ghost use Rattle.shape.specs.Shape.{Decides, MarksFit};
 ghost use Rattle.sound.specs.Filled.{Clear, Readable, Filled, AddsUp};
 ghost use Rattle.sound.specs.Check.{Trees, Chains, Checks};
 
@@ -46,7 +46,7 @@ pub enum Part {
 // Whether the words of a node from `from` up to `to` are 0. All are read, with no way out between.
 fn zeros(node: &[u64], from: usize, to: usize) -> bool
     requires { ⌜ (from ≤ to) × (to ≤ length (now node)) ⌝ }
-    ensures { λ r. ⌜ Tells r (Clear (now (node .entry)) from to) ⌝ }
+    ensures { λ r. ⌜ Decides r (Clear (now (node .entry)) from to) ⌝ }
 {
     let mut all = 0u64;
     let mut i = from;
@@ -60,7 +60,7 @@ fn zeros(node: &[u64], from: usize, to: usize) -> bool
 fn zeros_at(pool: &[u64], k: usize, from: usize, to: usize) -> bool
     requires { ⌜ Inside (now pool) k ⌝ }
     requires { ⌜ (from ≤ to) × (to ≤ nodeWords) ⌝ }
-    ensures { λ r. ⌜ Tells r (Clear (block (now (pool .entry)) k) from to) ⌝ }
+    ensures { λ r. ⌜ Decides r (Clear (block (now (pool .entry)) k) from to) ⌝ }
 {
     let a = start_of(k);
     zeros(&pool[a..a + NODE_WORDS], from, to)
@@ -73,7 +73,7 @@ fn adds_up(pool: &[u64], k: usize) -> bool
     requires { ⌜ Inside (now pool) k ⌝ }
     requires { ⌜ countAt (now pool) k ≤ 31 ⌝ }
     requires { ⌜ ((c : ℕ) → c < countAt (now pool) k + 1 → Inside (now pool) (kidAt (now pool) k c)) ⌝ }
-    ensures { λ r. ⌜ Tells r (AddsUp (now (pool .entry)) k (kidIdsAt (now (pool .entry)) k)) ⌝ }
+    ensures { λ r. ⌜ Decides r (AddsUp (now (pool .entry)) k (kidIdsAt (now (pool .entry)) k)) ⌝ }
 {
     let n = count_at(pool, k);
     let mut left = length_at(pool, k);
@@ -96,7 +96,7 @@ fn adds_up(pool: &[u64], k: usize) -> bool
 // Whether the unused slots of a node of the tree and its link are 0, and its length is right.
 fn filled(pool: &[u64], k: usize) -> bool
     requires { ⌜ Readable (now pool) k ⌝ }
-    ensures { λ r. ⌜ Tells r (Filled (now (pool .entry)) k) ⌝ }
+    ensures { λ r. ⌜ Decides r (Filled (now (pool .entry)) k) ⌝ }
 {
     let n = count_at(pool, k);
     if kid_at(pool, k, 0) == 0 {
@@ -113,9 +113,9 @@ fn filled(pool: &[u64], k: usize) -> bool
 
 // The same of every node that is marked.
 fn all_filled(pool: &[u64], p: usize, marks: &[u64]) -> bool
-    requires { ⌜ Room (now pool) p (now marks) ⌝ }
+    requires { ⌜ MarksFit (now pool) p (now marks) ⌝ }
     requires { ⌜ ((k : ℕ) → 1 ≤ k → k ≤ p → seen (now marks) k ≡ 1 → Readable (now pool) k) ⌝ }
-    ensures { λ r. ⌜ Tells r ((k : ℕ) → 1 ≤ k → k ≤ p → seen (now (marks .entry)) k ≡ 1 → Filled (now (pool .entry)) k) ⌝ }
+    ensures { λ r. ⌜ Decides r ((k : ℕ) → 1 ≤ k → k ≤ p → seen (now (marks .entry)) k ≡ 1 → Filled (now (pool .entry)) k) ⌝ }
 {
     let mut k = 0;
     while k < p {
@@ -131,7 +131,7 @@ fn all_filled(pool: &[u64], p: usize, marks: &[u64]) -> bool
 
 // Whether the tree is right: both passes. Marks its nodes.
 fn tree(pool: &[u64], p: usize, marks: &mut [u64]) -> Part
-    requires { ⌜ Room (now pool) p (now marks) ⌝ }
+    requires { ⌜ MarksFit (now pool) p (now marks) ⌝ }
     requires { ⌜ ((k : ℕ) → seen (now marks) k ≡ 0) ⌝ }
     ensures { λ r. ⌜ Trees r (now (pool .entry)) p (now (marks .entry)) (now (marks .exit)) ⌝ }
 {
@@ -151,7 +151,7 @@ fn tree(pool: &[u64], p: usize, marks: &mut [u64]) -> Part
 
 // Whether the free chain is right, and its nodes were not met. Marks and counts them.
 fn chain(pool: &[u64], p: usize, marks: &mut [u64]) -> Part
-    requires { ⌜ Room (now pool) p (now marks) ⌝ }
+    requires { ⌜ MarksFit (now pool) p (now marks) ⌝ }
     ensures { λ r. ⌜ Chains r (now (pool .entry)) (now (marks .entry)) (now (marks .exit)) ⌝ }
 {
     let mut k = pool[CHAIN_WORD] as usize;
@@ -176,7 +176,7 @@ fn chain(pool: &[u64], p: usize, marks: &mut [u64]) -> Part
 // Whether every node is marked.
 fn all_marked(marks: &[u64], p: usize) -> bool
     requires { ⌜ p ≤ 64 * length (now marks) ⌝ }
-    ensures { λ r. ⌜ Tells r ((k : ℕ) → 1 ≤ k → k ≤ p → seen (now (marks .entry)) k ≡ 1) ⌝ }
+    ensures { λ r. ⌜ Decides r ((k : ℕ) → 1 ≤ k → k ≤ p → seen (now (marks .entry)) k ≡ 1) ⌝ }
 {
     let mut k = 0;
     while k < p {

@@ -17,10 +17,11 @@ use Rattle.pool.proofs.Blocks.{length-slots}
 use Rattle.pool.proofs.Store.{run-block, sets-in, set-in, sets-block, part, block-in}
 use Rattle.pool.proofs.Slots.{parts}
 use Rattle.pool.proofs.Areas.{elem-area, kid-area, length-parts, area-open, area-clear, area-copy}
+use Rattle.chain.specs.Chain.{Blank}
 use Rattle.tree.proofs.Standing.{lent, counted, came-back}
-use Rattle.split.specs.Nodes.{TakesKid, Full, Moves, Blank}
+use Rattle.split.specs.Nodes.{HasKidRoom, Full, Moves}
 
-module _ {w : List ℕ} {k c : ℕ} (s : TakesKid w k c) (a : ℕ) (ea : a ≡ start k) where
+module _ {w : List ℕ} {k c : ℕ} (s : HasKidRoom w k c) (a : ℕ) (ea : a ≡ start k) where
   pub separator-put : (x j : ℕ) (p q : List ℕ)
       → p ≡ sets (part w a) (2 + c) (x ∷ run (part w a) (2 + c) (2 + getD (part w a) 0 0 - (2 + c)))
       → q ≡ sets p (33 + (c + 1)) (j ∷ run p (33 + (c + 1)) (33 + (getD (part w a) 0 0 + 1) - (33 + (c + 1))))

@@ -28,7 +28,7 @@ use Rattle.tree.specs.Lookup.{HasElement, HasKid}
 use Rattle.tree.specs.Stands.{Owns, Reshaped}
 use Rattle.tree.proofs.Standing.{nodeOf}
 use Rattle.tree.proofs.Edits.{each-kid, tree-at, node-untouched, kids-untouched, kids-reshaped, owns-kid, kid-count, has-kid, child-is}
-use Rattle.split.specs.Nodes.{TakesKid, Summed, Full, Moves}
+use Rattle.split.specs.Nodes.{HasKidRoom, Summed, Full, Moves}
 use Rattle.split.specs.Ready.{SplitReady}
 use Rattle.split.proofs.Halves.{left-length, right-length, summed}
 
@@ -180,7 +180,7 @@ module _ {w : List ℕ} {id c : ℕ} (S : SplitReady w id c) where
               (length-nodeBlock l (take 15 (K .elems)) (take 16 (kidIds h K)) (omega (arith, length-take 15 (K .elems)))
               (omega (arith, length-take 16 (kidIds h K))))
 
-          abbrev pub takes : TakesKid w₃ id c
+          abbrev pub takes : HasKidRoom w₃ id c
           takes = record {
             node = node-untouched (W₃ .untouched) apart₂
                 (node-untouched (W₂ .untouched) apart₃ (node-untouched (T .untouched) apart₃ (has-child .node)));
@@ -194,7 +194,7 @@ module _ {w : List ℕ} {id c : ℕ} (S : SplitReady w id c) where
               (ey : (s : Summed w child 16) → y ≡ total (lengthAt w) (take 16 (drop 16 (s .node .kids))))
               (el : l ≡ x + 15) (er : r ≡ y + 15)
               (em : (s : HasElement w child 15) → m ≡ getD (s .node .elems) 15 0)
-              (e₄ : (s : TakesKid w₃ id c)
+              (e₄ : (s : HasKidRoom w₃ id c)
               → w₄ ≡ withBlock w₃ id (nodeBlock (s .node .size) (insertAt (s .node .elems) c m) (insertAt (s .node .kids) (c + 1) sibling)))
             where
               abbrev top : List ℕ

@@ -2,14 +2,14 @@
 use mathlib.Core.Path.{_≡_}
 use mathlib.Core.List.{List, map}
 use Prim.Native.Nat.{ℕ, _+_, _^_, _≤_, _<_}
-use lib.ListN.{length, getD, replicate}
+use lib.ListN.{length, getD}
 use Rattle.lists.specs.Lists.{sum}
-use Rattle.pool.specs.Layout.{nodeWords}
-use Rattle.pool.specs.Parts.{Inside, Stored, lengthAt}
+use Rattle.pool.specs.Parts.{Inside, lengthAt}
+use Rattle.chain.specs.Chain.{Blank}
 use Rattle.tree.specs.Node.{Node}
 
 -- node k has children, and room for an element at place c and a child behind it
-pub record TakesKid (w : List ℕ) (k c : ℕ) : Type 0 where
+pub record HasKidRoom (w : List ℕ) (k c : ℕ) : Type 0 where
   pub node : Node w k
   pub place : c ≤ length (node .elems)
   pub room : length (node .elems) < 31
@@ -26,10 +26,6 @@ pub record Summed (w : List ℕ) (k from : ℕ) : Type 0 where
 pub record Full (w : List ℕ) (k : ℕ) : Type 0 where
   pub node : Node w k
   pub full : length (node .elems) ≡ 31
-
--- all words of node k are 0
-abbrev pub Blank : List ℕ → ℕ → Type 0
-Blank w k = Stored w k (replicate nodeWords 0)
 
 -- node k is full, and node j blank
 pub record Moves (w : List ℕ) (k j : ℕ) : Type 0 where

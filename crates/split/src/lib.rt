@@ -7,8 +7,9 @@ ghost use Rattle.lists.specs.Lists.{sum, insertAt};
 ghost use Rattle.model.specs.Insert.{splitChild};
 ghost use Rattle.pool.specs.Layout.{nodeBlock, withBlock};
 ghost use Rattle.pool.specs.Parts.{lengthAt};
+ghost use Rattle.chain.specs.Chain.{Blank};
 ghost use Rattle.tree.specs.Stands.{Reshaped};
-ghost use Rattle.split.specs.Nodes.{TakesKid, Summed, Full, Moves, Blank};
+ghost use Rattle.split.specs.Nodes.{HasKidRoom, Summed, Full, Moves};
 ghost use Rattle.split.specs.Ready.{SplitReady, RaiseReady, Raised};
 use pool::COUNT;
 use pool::ELEMS;
@@ -38,8 +39,8 @@ fn sum_lengths(pool: &[u64], k: usize, from: usize) -> usize
 
 // Puts x into node k, as its element c, and child j behind it. Both come from below the node.
 fn put_separator(pool: &mut [u64], k: usize, c: usize, x: u64, j: usize)
-    requires { ⌜ TakesKid (now pool) k c ⌝ }
-    ensures { λ _. ⌜ ((s : TakesKid (now (pool .entry)) k c)
+    requires { ⌜ HasKidRoom (now pool) k c ⌝ }
+    ensures { λ _. ⌜ ((s : HasKidRoom (now (pool .entry)) k c)
         → now (pool .exit) ≡ withBlock (now (pool .entry)) k
         (nodeBlock (s .node .size) (insertAt (s .node .elems) c x) (insertAt (s .node .kids) (c + 1) j))) ⌝ }
 {

@@ -1,6 +1,6 @@
 -- `needed` meets its contract: each answer hands what the calls ensured to a law of `Rooting`.
 use native.Mathlib.Omega.{arith}
-use Rattle.insertion.proofs.Rooting.{few-levels, root-upto, root-node, root-few, needs-one, needs-two, needs-none}
+use Rattle.insertion.proofs.Rooting.{few-levels, root-upto, root-node, root-few, needs-one, two-more, none-more}
 use Rattle.insertion.proofs.needed.Statement.{statement}
 use Rattle.insertion.proofs.needed.Tie as tie
 
@@ -16,14 +16,14 @@ returns-2 c =
     let c₁ = c .before in
     let c₂ = c₁ .before in
     let c₃ = c₂ .before in
-    λ b. needs-two b (c₃ .if1 .left) _ (c₂ .needed-below .ensures) _ (c₁ .is-full .ensures) (c .if2 .taken)
+    λ b. two-more b (c₃ .if1 .left) _ (c₂ .needed-below .ensures) _ (c₁ .is-full .ensures) (c .if2 .taken)
 
 returns-3 : tie.Need-returns-3
 returns-3 c =
     let c₁ = c .before in
     let c₂ = c₁ .before in
     let c₃ = c₂ .before in
-    λ b. needs-none b (c₃ .if1 .left) _ (c₂ .needed-below .ensures) _ (c₁ .is-full .ensures) (c .if2 .left)
+    λ b. none-more b (c₃ .if1 .left) _ (c₂ .needed-below .ensures) _ (c₁ .is-full .ensures) (c .if2 .left)
 
 pub needed-spec : {M : Type 1} → statement M
 needed-spec =

@@ -16,7 +16,7 @@ use Rattle.pool.specs.Layout.{block}
 use Rattle.pool.specs.Parts.{Inside, countAt, lengthAt, kidAt, kidIdsAt}
 use Rattle.pool.proofs.Block.{length-block}
 use Rattle.pool.proofs.Runs.{run-append}
-use Rattle.shape.specs.Shape.{Tells}
+use Rattle.shape.specs.Shape.{Decides}
 use Rattle.sound.specs.Filled.{AddsUp}
 use Rattle.sound.proofs.adds_up.Statement.{statement}
 use Rattle.sound.proofs.adds_up.Tie as tie
@@ -39,7 +39,7 @@ module _ (w : List ℕ) (k : ℕ) (I : Inside w k) (few : countAt w k ≤ 31) (c
     more : m ≤ left → Left w k (c + 1) (left - m)
     more a = (omega arith, omega (arith, L .1, next))
 
-    too-long : left < m → Tells false (AddsUp w k (kidIdsAt w k))
+    too-long : left < m → Decides false (AddsUp w k (kidIdsAt w k))
     too-long a = record {
       good = λ t. absurd (false≢true t);
       bad = λ t A.
@@ -49,7 +49,7 @@ module _ (w : List ℕ) (k : ℕ) (I : Inside w k) (few : countAt w k ≤ 31) (c
           omega (arith, b, L .1, next);
     }
 
-  all : countAt w k < c → Tells (eqb left 0) (AddsUp w k (kidIdsAt w k))
+  all : countAt w k < c → Decides (eqb left 0) (AddsUp w k (kidIdsAt w k))
   all a =
       let s : c ≡ countAt w k + 1 = omega arith in
       let b = rw s at (L .1) in
