@@ -15,10 +15,11 @@ use Rattle.model.proofs.Nodes.{size-least}
 use Rattle.model.proofs.Find.{Step}
 use Rattle.model.proofs.Fill.{Refilled}
 use Rattle.model.proofs.Remove.{Says}
+use Rattle.pool.specs.Parts.{Inside as InPool, kidAt}
 use Rattle.tree.specs.declared.Turn.{Turn}
-use Rattle.tree.specs.Lookup.{Above, Turns, HasKid}
+use Rattle.tree.specs.Lookup.{Above, Turns}
 use Rattle.tree.specs.Stands.{Owns, Reshaped}
-use Rattle.tree.proofs.Edits.{has-kid, child-is, reshaped-none, owns-above}
+use Rattle.tree.proofs.Edits.{kid-readable, child-is, reshaped-none, owns-above}
 use Rattle.repair.specs.Ready.{PairReady, Few, FillReady, Fills}
 use Rattle.repair.proofs.Choice.{ThinIs}
 use Rattle.removal.specs.declared.Descent.{Descent}
@@ -127,8 +128,8 @@ module _ {w : List ℕ} {id index : ℕ} (s : DownReady w id index) where
       pub next-kid : FillReady w id (u .child + 1)
       next-kid = kid-ready (u .child + 1) next-place
 
-      pub next-has : HasKid w id (u .child + 1)
-      next-has = has-kid O (s .ready .here) next-place
+      pub next-has : InPool w id × (u .child + 1 < 32)
+      next-has = kid-readable O (s .ready .here) next-place
 
       -- what the tests say of the two children
       left-thin : {b : Bool} → ThinIs w id (u .child) b → isThin h (kid h t c) ≡ b
@@ -159,7 +160,7 @@ module _ {w : List ℕ} {id index : ℕ} (s : DownReady w id index) where
 
       module _ (e : ThinIs w id (u .child) true) where
         pub went-first : ThinIs w id (u .child + 1) false
-            → (k : ℕ) → ((q : HasKid w id (u .child + 1)) → k ≡ getD (q .node .kids) (u .child + 1) 0)
+            → (k : ℕ) → k ≡ kidAt w id (u .child + 1)
             → Went w w h t f (descend h t index f) (record { id = k; index = 0; swaps = true; at = u .child; freed = 0 })
         unfolding wayFor downBy next-kid kid-ready
         went-first g k ek =

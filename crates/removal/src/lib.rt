@@ -60,7 +60,7 @@ fn go_down(pool: &mut [u64], id: usize, index: usize) -> Descent
         };
     }
     if !repair::is_thin(pool, id, c + 1) {
-        let k = tree::child(pool, id, c + 1);
+        let k = pool::kid_at(pool, id, c + 1);
         return Descent {
             id: k,
             index: 0,

@@ -8,16 +8,15 @@ use native.Mathlib.Decide.{decLt}
 use native.Mathlib.Omega.{arith}
 use borrow.Author.Tests.{lt-ltb, le-ltb}
 use lib.Dec.{leb}
-use lib.ListN.{length, getD}
+use lib.ListN.{length}
 use Rattle.model.specs.Tree.{Tree, kid}
 use Rattle.model.specs.Remove.{isThin, merge, borrowLeft, borrowRight, repairFor, repaired, fill}
 use Rattle.model.specs.declared.Repair.{Repair}
 use Rattle.model.specs.declared.Repair.the-variants.{Nothing, FromLeft, FromRight, WithLeft, WithRight}
 use Rattle.model.proofs.Fill.{Says, says}
-use Rattle.pool.specs.Parts.{Inside, countAt}
+use Rattle.pool.specs.Parts.{Inside, countAt, kidAt}
 use Rattle.pool.proofs.Node.{at-count}
 use Rattle.tree.specs.Stands.{Reshaped}
-use Rattle.tree.specs.Lookup.{HasKid}
 use Rattle.tree.proofs.Edits.{child-is, reshaped-none}
 use Rattle.repair.specs.Ready.{PairReady, Few, LeftLends, RightLends, FillReady, Fills}
 
@@ -37,7 +36,7 @@ module _ {w : List ℕ} {id c : ℕ} (s : FillReady w id c) where
   sibling d l = record { height = h; tree = t; free = s .free; owns = s .owns; here = s .here; some = s .some; place = l }
 
   -- the count of child c, which is in node k
-  module _ (k : ℕ) (ek : (q : HasKid w id c) → k ≡ getD (q .node .kids) c 0) where
+  module _ (k : ℕ) (ek : k ≡ kidAt w id c) where
     is : kid h t c .id ≡ k
     is = child-is (s .owns) (s .here) (s .place) k ek
 

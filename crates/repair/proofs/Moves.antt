@@ -12,13 +12,12 @@ use Rattle.model.specs.Tree.{Tree, kid, none, size}
 use Rattle.model.specs.Remove.{joined, merge, withPair, gaveLast, tookFront, gaveFirst, tookBack, borrowLeft, borrowRight}
 use Rattle.model.proofs.Fill.{merge-law, borrow-left-law, borrow-right-law}
 use Rattle.pool.specs.Layout.{chainWord, nodeWords, withBlock, nodeBlock, idOf, kidIds, rootBlock}
-use Rattle.pool.specs.Parts.{Inside, Stored, ChainAt, countAt}
+use Rattle.pool.specs.Parts.{Inside, Stored, ChainAt, countAt, kidAt}
 use Rattle.pool.specs.Frame.{Untouched}
 use Rattle.chain.specs.Chain.{Gave}
 use Rattle.pool.proofs.Node.{at-count}
 use Rattle.pool.proofs.Frame.{stored-untouched, untouched-both, Wrote, wrote, stored-same}
 use Rattle.pool.proofs.Blocks.{length-nodeBlock, length-rootBlock}
-use Rattle.tree.specs.Lookup.{HasKid}
 use Rattle.tree.specs.Stands.{Owns, Reshaped}
 use Rattle.tree.proofs.Edits.{KidAt, tree-at}
 use Rattle.pieces.specs.declared.Piece.{Piece}
@@ -40,7 +39,7 @@ count-three k x y z = omega (arith, count-append k (x ∷ []) (y ∷ (z ∷ []))
 
 -- ---- merge, in the order of the code
 
-module _ {w : List ℕ} {id c : ℕ} (s : PairReady Few w id c) (l : ℕ) (hl : (q : HasKid w id c) → l ≡ getD (q .node .kids) c 0) where
+module _ {w : List ℕ} {id c : ℕ} (s : PairReady Few w id c) (l : ℕ) (hl : l ≡ kidAt w id c) where
   abbrev h : ℕ
   h = s .height
 
@@ -170,8 +169,8 @@ lends-of {h = h} {x = x} T X Y place u v n few i p a b li lp less la lb room = r
 
 -- what is read for either borrow
 module _ {P : ℕ → ℕ → Type 0} {w : List ℕ} {id c : ℕ} (s : PairReady P w id c) (l r : ℕ)
-    (hl : (q : HasKid w id c) → l ≡ getD (q .node .kids) c 0)
-    (hr : (q : HasKid w id (c + 1)) → r ≡ getD (q .node .kids) (c + 1) 0) where
+    (hl : l ≡ kidAt w id c)
+    (hr : r ≡ kidAt w id (c + 1)) where
   pair : Pair w (s .height) (s .tree) (s .free) c id l r
   pair = record { owns = s .owns; place = s .place; top = s .here; left = pair-is s c (omega arith) l hl; right = pair-is s (c + 1) (omega arith) r hr }
 
@@ -192,8 +191,8 @@ abbrev frontOf : ℕ → End
 frontOf r = record { node = r; elem = 0; kid = 0 }
 
 module _ {w : List ℕ} {id c : ℕ} (l r m : ℕ)
-    (hl : (q : HasKid w id c) → l ≡ getD (q .node .kids) c 0)
-    (hr : (q : HasKid w id (c + 1)) → r ≡ getD (q .node .kids) (c + 1) 0) (em : m ≡ countAt w l) where
+    (hl : l ≡ kidAt w id c)
+    (hr : r ≡ kidAt w id (c + 1)) (em : m ≡ countAt w l) where
   -- the left child lends
   module _ (s : PairReady LeftLends w id c) where
     abbrev hL : ℕ

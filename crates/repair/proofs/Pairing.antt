@@ -15,21 +15,20 @@ use Rattle.lists.proofs.Edits.{split-two, map-removeAt}
 use Rattle.model.specs.Tree.{Tree, kid, none, size}
 use Rattle.model.proofs.Nodes.{held, held-inner, held-id}
 use Rattle.pool.specs.Layout.{chainWord, idOf, rootBlock}
-use Rattle.pool.specs.Parts.{Stored, At, ChainAt}
+use Rattle.pool.specs.Parts.{Stored, At, ChainAt, Inside, kidAt}
 use Rattle.pool.specs.Frame.{Untouched}
 use Rattle.pool.proofs.Frame.{chain-untouched}
-use Rattle.tree.specs.Lookup.{HasKid}
 use Rattle.tree.specs.Stands.{Owns, Reshaped}
-use Rattle.tree.proofs.Edits.{KidAt, each-kid, kids-untouched, kids-reshaped, has-kid, child-is}
+use Rattle.tree.proofs.Edits.{KidAt, each-kid, kids-untouched, kids-reshaped, kid-readable, child-is}
 use Rattle.repair.specs.Ready.{PairReady}
 use Rattle.repair.proofs.Ends.{In}
 
 -- the pair's children, as the words of the node name them
 module _ {P : ℕ → ℕ → Type 0} {w : List ℕ} {id c : ℕ} (s : PairReady P w id c) (d : ℕ) (m : d ≤ c + 1) where
-  abbrev pub pair-kid : HasKid w id d
-  pair-kid = has-kid (s .owns) (s .here) (omega (arith, s .place, s .owns .fit .one-more))
+  pub pair-kid : Inside w id × (d < 32)
+  pair-kid = kid-readable (s .owns) (s .here) (omega (arith, s .place, s .owns .fit .one-more))
 
-  pub pair-is : (k : ℕ) → ((q : HasKid w id d) → k ≡ getD (q .node .kids) d 0) → kid (s .height) (s .tree) d .id ≡ k
+  pub pair-is : (k : ℕ) → k ≡ kidAt w id d → kid (s .height) (s .tree) d .id ≡ k
   pair-is k e = child-is (s .owns) (s .here) (omega (arith, s .place, s .owns .fit .one-more)) k e
 
 -- ---- children c and c + 1 of t, in nodes l and r, with t itself in node i

@@ -18,7 +18,7 @@ pub fn merge(pool: &mut [u64], id: usize, c: usize)
         → Reshaped (now (pool .entry)) (now (pool .exit)) (suc (s .height)) (s .tree) (s .free)
         (merge (s .height) (s .tree) c) (kid (s .height) (s .tree) (c + 1) .id ∷ s .free)) ⌝ }
 {
-    let l = tree::child(pool, id, c);
+    let l = pool::kid_at(pool, id, c);
     let p = pieces::take_out(pool, id, c, c + 1, 0);
     pieces::append(pool, l, p.elem, p.kid);
     chain::give_node(pool, p.kid);
@@ -31,8 +31,8 @@ pub fn borrow_left(pool: &mut [u64], id: usize, c: usize)
         → Reshaped (now (pool .entry)) (now (pool .exit)) (suc (s .height)) (s .tree) (s .free)
         (borrowLeft (s .height) (s .tree) c) (s .free)) ⌝ }
 {
-    let l = tree::child(pool, id, c);
-    let r = tree::child(pool, id, c + 1);
+    let l = pool::kid_at(pool, id, c);
+    let r = pool::kid_at(pool, id, c + 1);
     let m = pool::count_at(pool, l);
     let from = End {
         node: l,
@@ -54,8 +54,8 @@ pub fn borrow_right(pool: &mut [u64], id: usize, c: usize)
         → Reshaped (now (pool .entry)) (now (pool .exit)) (suc (s .height)) (s .tree) (s .free)
         (borrowRight (s .height) (s .tree) c) (s .free)) ⌝ }
 {
-    let l = tree::child(pool, id, c);
-    let r = tree::child(pool, id, c + 1);
+    let l = pool::kid_at(pool, id, c);
+    let r = pool::kid_at(pool, id, c + 1);
     let m = pool::count_at(pool, l);
     let from = End {
         node: r,
@@ -77,7 +77,7 @@ pub fn is_thin(pool: &[u64], id: usize, c: usize) -> bool
     requires { ⌜ FillReady (now pool) id c ⌝ }
     ensures { λ r. ⌜ ((s : FillReady (now (pool .entry)) id c) → r ≡ isThin (s .height) (kid (s .height) (s .tree) c)) ⌝ }
 {
-    let k = tree::child(pool, id, c);
+    let k = pool::kid_at(pool, id, c);
     pool::count_at(pool, k) <= 15
 }
 

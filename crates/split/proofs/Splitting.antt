@@ -18,16 +18,16 @@ use Rattle.model.proofs.Nodes.{held, held-id, kids-held, Rearranged, parts-held
 use Rattle.model.proofs.Find.{place, found}
 use Rattle.model.proofs.Split.{split-law}
 use Rattle.pool.specs.Layout.{withBlock, nodeBlock, idOf, kidIds, rootBlock}
-use Rattle.pool.specs.Parts.{At, lengthAt}
+use Rattle.pool.specs.Parts.{At, lengthAt, Inside, kidAt}
 use Rattle.pool.specs.Frame.{Untouched}
 use Rattle.chain.specs.Chain.{Free, Took}
 use Rattle.pool.proofs.Blocks.{length-nodeBlock, most-kids}
 use Rattle.pool.proofs.Frame.{stored-untouched, chain-untouched, untouched-both, Wrote, wrote, stored-same}
 use Rattle.tree.specs.Node.{Node}
-use Rattle.tree.specs.Lookup.{HasElement, HasKid}
+use Rattle.tree.specs.Lookup.{HasElement}
 use Rattle.tree.specs.Stands.{Owns, Reshaped}
 use Rattle.tree.proofs.Standing.{nodeOf}
-use Rattle.tree.proofs.Edits.{each-kid, tree-at, node-untouched, kids-untouched, kids-reshaped, owns-kid, kid-count, has-kid, child-is}
+use Rattle.tree.proofs.Edits.{each-kid, tree-at, node-untouched, kids-untouched, kids-reshaped, owns-kid, kid-count, kid-readable, child-is}
 use Rattle.split.specs.Nodes.{HasKidRoom, Summed, Full, Moves}
 use Rattle.split.specs.Ready.{SplitReady}
 use Rattle.split.proofs.Halves.{left-length, right-length, summed}
@@ -102,13 +102,13 @@ module _ {w : List ℕ} {id c : ℕ} (S : SplitReady w id c) where
   pub O : Owns w h K f
   O = owns-kid (S .owns) c (S .place)
 
-  abbrev pub has-child : HasKid w id c
-  has-child = has-kid (S .owns) (S .here) (S .place)
+  pub has-child : Inside w id × (c < 32)
+  has-child = kid-readable (S .owns) (S .here) (S .place)
 
   pub has-free : Free w f
   has-free = record { chain = S .owns .chain; once = λ k. omega (arith, S .owns .once k); some = S .some }
 
-  module _ (child : ℕ) (ec : (s : HasKid w id c) → child ≡ getD (s .node .kids) c 0) where
+  module _ (child : ℕ) (ec : child ≡ kidAt w id c) where
     pub is : K .id ≡ child
     is = child-is (S .owns) (S .here) (S .place) child ec
 
@@ -183,7 +183,7 @@ module _ {w : List ℕ} {id c : ℕ} (S : SplitReady w id c) where
           abbrev pub takes : HasKidRoom w₃ id c
           takes = record {
             node = node-untouched (W₃ .untouched) apart₂
-                (node-untouched (W₂ .untouched) apart₃ (node-untouched (T .untouched) apart₃ (has-child .node)));
+                (node-untouched (W₂ .untouched) apart₃ (node-untouched (T .untouched) apart₃ (nodeOf (suc h) t (S .here) (S .owns .at) (S .owns .fit))));
             place = omega (arith, S .place, S .owns .fit .one-more);
             room = S .room;
             one-more = kid-count h t ∙ S .owns .fit .one-more;

@@ -98,7 +98,7 @@ pub fn split_child(pool: &mut [u64], id: usize, c: usize)
         → Reshaped (now (pool .entry)) (now (pool .exit)) (suc (s .height)) (s .tree) (s .free)
         (splitChild (s .height) (s .tree) c (getD (s .free) 0 0)) (drop 1 (s .free))) ⌝ }
 {
-    let child = tree::child(pool, id, c);
+    let child = pool::kid_at(pool, id, c);
     let middle = tree::element(pool, child, 15);
     let left = sum_lengths(pool, child, 0) + 15;
     let right = sum_lengths(pool, child, 16) + 15;

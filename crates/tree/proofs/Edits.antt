@@ -1,9 +1,9 @@
 -- Edits of trees that stand in the pool: what an edit elsewhere leaves, a node with new words or other children, and one edit after another.
-use mathlib.Core.Path.{_≡_, sym, _∙_}
+use mathlib.Core.Path.{_≡_, sym, subst, _∙_}
 use mathlib.Core.List.{List, [], _∷_, _++_}
 use Prim.Native.Nat.{ℕ, zero, suc, _+_, _≤_, _<_}
 use native.Mathlib.Omega.{arith}
-use lib.ListN.{length, getD, set, take, drop, length-map, List·getD-map}
+use lib.ListN.{length, set, take, drop, length-map, List·getD-map}
 use lib.Seq.{set-split}
 use Rattle.lists.specs.Lists.{sum, count}
 use Rattle.lists.proofs.All.{All, nil, cons, all-append, all-take, all-drop, all-at, all-of}
@@ -12,14 +12,15 @@ use Rattle.lists.proofs.Counts.{count-append, count-self, one-same}
 use Rattle.model.specs.Tree.{Tree, Below, kid, none, size, ids}
 use Rattle.model.proofs.Nodes.{held, held-inner, held-id, kids-held, kid-size, Rearranged}
 use Rattle.pool.specs.Layout.{idOf, kidIds, rootBlock}
-use Rattle.pool.specs.Parts.{Stored, At, KidsAt, ChainAt}
+use Rattle.pool.specs.Parts.{Inside, Stored, At, KidsAt, ChainAt, kidAt}
 use Rattle.pool.specs.Frame.{Untouched}
 use Rattle.pool.proofs.Frame.{at-untouched, stored-untouched, chain-untouched, untouched-more, untouched-none, untouched-both}
 use Rattle.pool.proofs.Frame.{Wrote, stored-same}
+use Rattle.pool.proofs.Blocks.{most-kids}
 use Rattle.tree.specs.Node.{Node}
 use Rattle.tree.specs.Stands.{Stands, Owns, Reshaped}
-use Rattle.tree.specs.Lookup.{Above, HasKid}
-use Rattle.tree.proofs.Standing.{nodeOf}
+use Rattle.tree.specs.Lookup.{Above}
+use Rattle.tree.proofs.Standing.{nodeOf, node-kid-at}
 
 -- ---- the children of a node, leaf or not
 
@@ -151,15 +152,13 @@ unfolding kidIds
 kid-count h t = length-map (t .kids) (idOf h)
 
 module _ {w : List ℕ} {h id c : ℕ} {t : Tree (suc h)} {f : List ℕ} (O : Owns w (suc h) t f) (e : t .id ≡ id) (l : c < length (t .kids)) where
-  abbrev pub has-kid : HasKid w id c
-  has-kid = record {
-    node = nodeOf (suc h) t e (O .at) (O .fit);
-    below = omega (arith, kid-count h t);
-  }
+  pub kid-readable : Inside w id × (c < 32)
+  kid-readable = (subst (Inside w) e (O .at .here .inside), omega (arith, kid-count h t, most-kids (suc h) t (O .fit)))
 
-  pub child-is : (k : ℕ) → ((q : HasKid w id c) → k ≡ getD (q .node .kids) c 0) → kid h t c .id ≡ k
+  pub child-is : (k : ℕ) → k ≡ kidAt w id c → kid h t c .id ≡ k
   unfolding kidIds
-  child-is k ek = sym (ek has-kid ∙ List·getD-map (idOf h) (t .kids) c (none h))
+  child-is k ek =
+      sym (ek ∙ node-kid-at (nodeOf (suc h) t e (O .at) (O .fit)) c (kid-readable .1) ∙ List·getD-map (idOf h) (t .kids) c (none h))
 
 -- ---- no edit, one edit after another, and what holds between them
 

@@ -49,11 +49,6 @@ pub record HasElement (w : List ℕ) (k i : ℕ) : Type 0 where
   pub node : Node w k
   pub below : i < length (node .elems)
 
--- node k has child c
-pub record HasKid (w : List ℕ) (k c : ℕ) : Type 0 where
-  pub node : Node w k
-  pub below : c < length (node .kids)
-
 -- x stands in the place of the old one
 pub record Swapped (w w′ : List ℕ) (k i x : ℕ) (m : Node w k) (old : ℕ) : Type 0 where
   pub given : old ≡ getD (m .elems) i 0

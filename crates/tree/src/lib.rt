@@ -1,7 +1,7 @@
 // Lookup and replacement in a tree that is known to stand in the pool.
 ghost use mathlib.Core.Path.{_≡_};
 ghost use lib.ListN.{getD};
-ghost use Rattle.tree.specs.Lookup.{Above, Turns, Has, Got, Spans, HasElement, HasKid, Swapped, Replaced};
+ghost use Rattle.tree.specs.Lookup.{Above, Turns, Has, Got, Spans, HasElement, Swapped, Replaced};
 use model::Found;
 use model::Stretch;
 use pool::ELEMS;
@@ -30,14 +30,6 @@ pub fn element(pool: &[u64], k: usize, i: usize) -> u64
 {
     let a = pool::start_of(k);
     pool::elem(&pool[a..a + NODE_WORDS], i)
-}
-
-// The id of child c of node k.
-pub fn child(pool: &[u64], k: usize, c: usize) -> usize
-    requires { ⌜ HasKid (now pool) k c ⌝ }
-    ensures { λ r. ⌜ ((s : HasKid (now (pool .entry)) k c) → r ≡ getD (s .node .kids) c 0) ⌝ }
-{
-    pool::kid_at(pool, k, c)
 }
 
 // Puts x in the place of element i of node k, and gives the old one.

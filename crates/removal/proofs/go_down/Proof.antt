@@ -33,7 +33,7 @@ returns-3 : tie.Need-returns-3
 returns-3 c s =
     let b = c .before .before .before .before .before in
     went-first s _ (b .before .before .before .before .before .way-to .ensures) (not-false _ (b .before .before .before .if1 .left)) (left b)
-    (λ q. sym (c .before .before .before .is-thin2 .ensures q) ∙ not-true _ (c .before .before .if3 .taken)) _ (c .child .ensures)
+    (λ q. sym (c .before .before .before .is-thin2 .ensures q) ∙ not-true _ (c .before .before .if3 .taken)) _ (c .kid-at .ensures)
 
 returns-4 : tie.Need-returns-4
 returns-4 c s =

@@ -1,5 +1,5 @@
 -- `is_thin` meets its contract: the count read is the child's.
-use Rattle.tree.proofs.Edits.{has-kid}
+use Rattle.tree.proofs.Edits.{kid-readable}
 use Rattle.repair.proofs.Choice.{kid-inside, thin-is}
 use Rattle.repair.proofs.is_thin.Statement.{statement}
 use Rattle.repair.proofs.is_thin.Tie as tie
@@ -7,5 +7,5 @@ use Rattle.repair.proofs.is_thin.Tie as tie
 pub is-thin-spec : {M : Type 1} → statement M
 is-thin-spec =
     tie.close
-    (tie.spec (λ c κs. let s = c .before .pre in has-kid (s .owns) (s .here) (s .place)) (λ c κs. kid-inside (c .before .before .pre) _ (c .child .ensures))
-    (λ c s. thin-is s _ (c .before .child .ensures) _ (c .count-at .ensures)))
+    (tie.spec (λ c κs. let s = c .before .pre in kid-readable (s .owns) (s .here) (s .place)) (λ c κs. kid-inside (c .before .before .pre) _ (c .kid-at .ensures))
+    (λ c s. thin-is s _ (c .before .kid-at .ensures) _ (c .count-at .ensures)))
