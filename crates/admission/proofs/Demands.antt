@@ -1,66 +1,99 @@
--- The three demands in their own words, over the door's promise.
-use mathlib.Core.Path.{_≡_, refl, ap, subst, _∙_}
-use mathlib.Core.Bool.{Bool, true, false}
-use mathlib.Core.List.{List}
-use Prim.Native.Nat.{ℕ, _*_, _-_, _^_, _≤_, _<_}
+-- The three demands in their own words, over the door's promise, for every call. Answers stand in figures: `answer` is number, value,
+-- comparisons, and `walked` is number, element, position. A sound pool holds a bag; its list is `listOf (b .root)`, of n samples.
+use mathlib.Core.Path.{_≡_, refl, sym, ap, subst, _∙_}
+use mathlib.Core.List.{List, [], _∷_, _++_}
+use mathlib.Core.Logic.{_⊎_, inl, inr}
+use Prim.Native.Nat.{ℕ, _+_, _*_, _-_, _^_, _≤_, _<_}
+use native.Mathlib.Nat.{add-zero}
 use native.Mathlib.Omega.{arith}
-use lib.Dec.{leb, ltb}
 use lib.ListN.{length, getD, set}
 use Rattle.lists.specs.Lists.{insertAt, removeAt, count, from}
+use Rattle.lists.proofs.Edits.{insertAt-end}
+use Rattle.lists.proofs.Counts.{count-in, count-out}
+use Rattle.lists.proofs.OneOf.{OneOf}
 use Rattle.model.specs.declared.Answer.{Answer}
-use Rattle.model.specs.Tree.{Bag, listOf, met, bagGet, bagReplace}
+use Rattle.model.specs.declared.Walked.{Walked}
+use Rattle.model.specs.Tree.{Bag, empty, listOf, met, bagGet, bagReplace}
 use Rattle.model.specs.Insert.{needed, bagInsert}
 use Rattle.model.specs.Remove.{bagRemove}
-use Rattle.model.specs.Calls.{refused, gives, lengthOf, Outcome, outcome, refuse, insertCall, replaceCall, removeCall, getCall}
-use Rattle.model.proofs.Calls.{insert-beyond, insert-full, insert-done, replace-done, remove-done, get-done}
+use Rattle.model.specs.Calls.{refused, lengthOf, Outcome, outcome, stays, insertCall, pushCall, replaceCall, removeCall}
+use Rattle.model.specs.Calls.{checkCall, lenCall, getCall, skipCall, equalCall}
+use Rattle.model.proofs.Calls.{answer, walked, Keeps, insert-beyond, insert-full, insert-done, push-at-end, replace-beyond, replace-done}
+use Rattle.model.proofs.Calls.{remove-beyond, remove-done, check-done, len-done, get-beyond, get-done, skip-beyond, skip-done}
+use Rattle.model.proofs.Calls.{equal-same, equal-differ, Zeros, equal-zeros, skip-zeros, equal-numbers}
 use Rattle.model.proofs.Bags.{bag-get, bag-replace, bag-insert, bag-remove}
 use Rattle.model.proofs.Bounds.{enough, compared-most}
-use Rattle.pool.specs.Sound.{Holds, Sound}
-use Rattle.pool.proofs.Whole.{nodes-of}
+use Rattle.pool.specs.Sound.{Holds, Sound, Sized, nodesIn}
+use Rattle.pool.proofs.Whole.{nodes-of, holds-parts, holds-empty}
+use Rattle.pool.proofs.Sized.{fits-true, nodes-in}
 use Rattle.pool.proofs.Read.{one-pool}
-use Rattle.admission.specs.Promise.{Edits, Tells}
+use Rattle.pool.proofs.Decide.{sized?}
+use Rattle.admission.specs.Promise.{Promise, Edits, Tells, Compares, Formats}
 use Rattle.admission.proofs.One.{decided}
 
--- ---- demand 1: a refused call changes no word
+-- ---- demand 1: a refused call changes no word, and gives zeros
 
--- a call that leaves the bag where its answer is a refusal
-abbrev pub Refusing : (Bag → Outcome) → Type 0
-Refusing call = (b : Bag) → (call b .answer .number ≡ 0 → ⊥) → call b .bag ≡ b
+pub refused-unchanged : {call : Bag → Outcome} → Keeps call → {w w′ : List ℕ} {r : Answer} → Edits call w r w′ → (r .number ≡ 0 → ⊥)
+    → (r ≡ answer (r .number) 0 0) × (w′ ≡ w)
+refused-unchanged {call} K {w} {w′} {r} P z =
+    decided w (λ n. (rw (P .misfit n .0), P .misfit n .1)) (λ s u. (rw (P .unsound s u .0), P .unsound s u .1)) held
+  where
+    held : (b : Bag) → Holds w b → (r ≡ answer (r .number) 0 0) × (w′ ≡ w)
+    held b H =
+        let e : r ≡ call b .answer = P .holds b H .0 in
+        let k = K b (λ y. z (ap (λ (a : Answer). a .number) e ∙ y)) in
+        (rw e (ap (λ (o : Outcome). o .answer) k), one-pool (subst (λ (o : Outcome). Holds w′ (o .bag)) k (P .holds b H .1)) H)
 
-refuse-keeps : (t : Bool) (n : ℕ) (b : Bag) (o : Outcome) → ((o .answer .number ≡ 0 → ⊥) → o .bag ≡ b)
-    → (refuse t n b o .answer .number ≡ 0 → ⊥) → refuse t n b o .bag ≡ b
-refuse-keeps true n b o k z = refl
-refuse-keeps false n b o k z = k z
+pub told-zeros : {ask : Bag → Answer} → Zeros ask → {w : List ℕ} {r : Answer} → Tells refused ask w r → (r .number ≡ 0 → ⊥)
+    → r ≡ answer (r .number) 0 0
+told-zeros K {w} P z =
+    decided w (λ n. rw (P .misfit n)) (λ s u. rw (P .unsound s u))
+    (λ b H. rw (P .holds b H) (K b (λ y. z (ap (λ (a : Answer). a .number) (P .holds b H) ∙ y))))
 
-pub insert-keeps : (i x : ℕ) → Refusing (insertCall i x)
-unfolding insertCall
-insert-keeps i x b z =
-    refuse-keeps (ltb (lengthOf b) i) 2 b _
-    (refuse-keeps (ltb (length (b .free)) (needed (b .root) i)) 3 b (outcome (gives 0) (bagInsert b i x)) (λ y. absurd (y refl))) z
+pub compares-zeros : {v w : List ℕ} {r : Answer} → Compares v w r → (r .number ≡ 0 → ⊥) → r ≡ answer (r .number) 0 0
+compares-zeros {v} P z = decided v (λ n. rw (P .misfit n)) (λ s u. rw (P .unsound s u)) (λ a G. told-zeros (equal-zeros a) (P .holds a G) z)
 
-pub replace-keeps : (i x : ℕ) → Refusing (replaceCall i x)
-unfolding replaceCall
-replace-keeps i x b z = refuse-keeps (leb (lengthOf b) i) 2 b (outcome (gives (bagGet b i .element)) (bagReplace b i x)) (λ y. absurd (y refl)) z
+pub walk-zeros : (p m : ℕ) {w : List ℕ} {r : Walked} → Tells (stays p) (skipCall p m) w r → (r .number ≡ 0 → ⊥) → r .element ≡ 0
+walk-zeros p m {w} {r} P z =
+    decided w (λ n. rw (P .misfit n)) (λ s u. rw (P .unsound s u))
+    (λ b H. rw (P .holds b H) (ap (λ (v : Walked). v .element) (skip-zeros p m b (λ y. z (ap (λ (v : Walked). v .number) (P .holds b H) ∙ y)))))
 
-pub remove-keeps : (i : ℕ) → Refusing (removeCall i)
-unfolding removeCall
-remove-keeps i b z = refuse-keeps (leb (lengthOf b) i) 2 b (outcome (gives (bagRemove b i .old)) (bagRemove b i .bag)) (λ y. absurd (y refl)) z
+-- which numbers a call can answer: 4 and 1, and those of the call on a bag
+promised-numbers : (ns : List ℕ) {w : List ℕ} {n : ℕ} → Promise w (n ≡ 4) (n ≡ 1) (λ b. OneOf ns n) → OneOf (4 ∷ 1 ∷ ns) n
+promised-numbers ns {w} P = decided w (λ m. inl (P .misfit m)) (λ s u. inr (inl (P .unsound s u))) (λ b H. inr (inr (P .holds b H)))
 
-pub refused-unchanged : {call : Bag → Outcome} → Refusing call → {w w′ : List ℕ} {r : Answer} → Edits call w r w′ → (r .number ≡ 0 → ⊥)
-    → w′ ≡ w
-refused-unchanged K {w} {w′} P z =
-    decided w (λ n. P .misfit n .1) (λ s u. P .unsound s u .1)
-    (λ b H.
-    let same = K b (λ e. z (ap (λ (a : Answer). a .number) (P .holds b H .0) ∙ e)) in
-    one-pool (subst (Holds w′) same (P .holds b H .1)) H)
+pub edits-numbers : {call : Bag → Outcome} (ns : List ℕ) → ((b : Bag) → OneOf ns (call b .answer .number)) → {w w′ : List ℕ} {r : Answer}
+    → Edits call w r w′ → OneOf (4 ∷ 1 ∷ ns) (r .number)
+edits-numbers ns K {r = r} P =
+    promised-numbers ns (record {
+      misfit = λ n. ap (λ (a : Answer). a .number) (P .misfit n .0);
+      unsound = λ s u. ap (λ (a : Answer). a .number) (P .unsound s u .0);
+      holds = λ b H. rw (P .holds b H .0) (K b);
+    })
 
--- ---- demand 3: every accepted call leaves a sound pool, with every node in the tree or free, once
+pub tells-numbers : {A : Type 0} (number : A → ℕ) (refuse : ℕ → A) {ask : Bag → A} (ns : List ℕ) → ((n : ℕ) → number (refuse n) ≡ n)
+    → ((b : Bag) → OneOf ns (number (ask b))) → {w : List ℕ} {r : A} → Tells refuse ask w r → OneOf (4 ∷ 1 ∷ ns) (number r)
+tells-numbers number refuse ns N K {r = r} P =
+    promised-numbers ns (record {
+      misfit = λ n. ap number (P .misfit n) ∙ N 4;
+      unsound = λ s u. ap number (P .unsound s u) ∙ N 1;
+      holds = λ b H. rw (P .holds b H) (K b);
+    })
 
-pub accepted-sound : {call : Bag → Outcome} {w w′ : List ℕ} {r : Answer} → Edits call w r w′ → Sound w → Sound w′
-accepted-sound {call} P (b, H) = (call b .bag, P .holds b H .1)
+pub formats-numbers : {w w′ : List ℕ} {r : Answer} → Formats w r w′ → OneOf (4 ∷ 0 ∷ []) (r .number)
+formats-numbers {w} {r = r} P = go (sized? w)
+  where
+    go : Sized w ⊎ (Sized w → ⊥) → OneOf (4 ∷ 0 ∷ []) (r .number)
+    go (inl s) = inr (inl (ap (λ (a : Answer). a .number) (P .fits s .0)))
+    go (inr n) = inl (ap (λ (a : Answer). a .number) (P .misfit n .0))
 
-pub every-node-once : {w : List ℕ} {b : Bag} (H : Holds w b) (k : ℕ) → met k b ≡ count k (from 1 (H .nodes))
-every-node-once H k = H .lawful .once k
+pub compares-numbers : {v w : List ℕ} {r : Answer} → Compares v w r → OneOf (4 ∷ 1 ∷ 4 ∷ 1 ∷ 0 ∷ []) (r .number)
+compares-numbers P =
+    promised-numbers (4 ∷ 1 ∷ 0 ∷ []) (record {
+      misfit = λ n. ap (λ (a : Answer). a .number) (P .misfit n);
+      unsound = λ s u. ap (λ (a : Answer). a .number) (P .unsound s u);
+      holds = λ b H. tells-numbers (λ (a : Answer). a .number) refused (0 ∷ []) (λ n. refl) (equal-numbers b) (P .holds b H);
+    })
 
 -- ---- demand 2: each call is `Vec`'s on the list
 
@@ -74,45 +107,133 @@ done : {call : Bag → Outcome} {w w′ : List ℕ} {r : Answer} → Edits call 
 done {w′ = w′} P {b} H o e =
     (P .holds b H .0 ∙ ap (λ (u : Outcome). u .answer) e, subst (λ (u : Outcome). Holds w′ (u .bag)) e (P .holds b H .1))
 
+-- demand 3's P, and its room rule on a bag
+nodes-held : {w : List ℕ} {b : Bag} (H : Holds w b) → nodesIn (length w) ≡ H .nodes
+nodes-held {w} H = nodes-in (length w) (H .nodes) (holds-parts H .sized)
+
+room-for : {w : List ℕ} {b : Bag} → Holds w b → (i : ℕ) → i ≤ lengthOf b → lengthOf b < 15 * nodesIn (length w)
+    → needed (b .root) i ≤ length (b .free)
+room-for {w} {b} H i l n =
+    omega (arith, enough (b .root) (H .lawful .fit) i l (H .nodes) (omega (arith, nodes-held H)), nodes-of (H .lawful))
+
 module _ {w w′ : List ℕ} {r : Answer} {b : Bag} (H : Holds w b) (i : ℕ) where
   module _ (x : ℕ) (P : Edits (insertCall i x) w r w′) where
-    pub insert-past-the-end : lengthOf b < i → r ≡ refused 2
+    pub insert-past-the-end : lengthOf b < i → r ≡ answer 2 0 0
     insert-past-the-end l = done P H _ (insert-beyond b i x l) .0
 
-    pub insert-without-room : i ≤ lengthOf b → length (b .free) < needed (b .root) i → r ≡ refused 3
+    pub insert-without-room : i ≤ lengthOf b → length (b .free) < needed (b .root) i → r ≡ answer 3 0 0
     insert-without-room l n = done P H _ (insert-full b i x l n) .0
 
-    pub insert-as-vec : i ≤ lengthOf b → needed (b .root) i ≤ length (b .free) → (r ≡ gives 0) × Lists w′ (insertAt (listOf (b .root)) i x)
+    pub insert-as-vec : i ≤ lengthOf b → needed (b .root) i ≤ length (b .free)
+        → (r ≡ answer 0 0 0) × Lists w′ (insertAt (listOf (b .root)) i x)
     insert-as-vec l n =
         let D = done P H _ (insert-done b i x l n) in
         (D .0, (bagInsert b i x, D .1, bag-insert b i x (H .lawful .fit) l n .edited .list))
 
     -- demand 3's room rule
-    pub insert-with-room : i ≤ lengthOf b → lengthOf b < 15 * H .nodes → r ≡ gives 0
-    insert-with-room l n =
-        insert-as-vec l (omega (arith, enough (b .root) (H .lawful .fit) i l (H .nodes) n, nodes-of (H .lawful))) .0
+    pub insert-with-room : i ≤ lengthOf b → lengthOf b < 15 * nodesIn (length w) → r ≡ answer 0 0 0
+    insert-with-room l n = insert-as-vec l (room-for H i l n) .0
 
-  pub replace-as-vec : (x : ℕ) → Edits (replaceCall i x) w r w′ → i < lengthOf b
-      → (r ≡ gives (getD (listOf (b .root)) i 0)) × Lists w′ (set (listOf (b .root)) i x)
-  replace-as-vec x P l =
-      let D = done P H _ (replace-done b i x l) in
-      (D .0 ∙ ap gives (bag-get b i (H .lawful .fit) l), (bagReplace b i x, D .1, bag-replace b i x (H .lawful .fit) l .list))
+  module _ (x : ℕ) (P : Edits (replaceCall i x) w r w′) where
+    pub replace-past-the-end : lengthOf b ≤ i → r ≡ answer 2 0 0
+    replace-past-the-end l = done P H _ (replace-beyond b i x l) .0
 
-  pub remove-as-vec : Edits (removeCall i) w r w′ → i < lengthOf b
-      → (r ≡ gives (getD (listOf (b .root)) i 0)) × Lists w′ (removeAt (listOf (b .root)) i)
-  remove-as-vec P l =
-      let D = done P H _ (remove-done b i l) in
-      let R = bag-remove b i (H .lawful .fit) l in
-      (D .0 ∙ ap gives (R .old), (bagRemove b i .bag, D .1, R .edited .list))
+    pub replace-as-vec : i < lengthOf b → (r ≡ answer 0 (getD (listOf (b .root)) i 0) 0) × Lists w′ (set (listOf (b .root)) i x)
+    replace-as-vec l =
+        let D = done P H _ (replace-done b i x l) in
+        (D .0 ∙ ap (λ (v : ℕ). answer 0 v 0) (bag-get b i (H .lawful .fit) l), (bagReplace b i x, D .1, bag-replace b i x (H .lawful .fit) l .list))
 
-module _ {w : List ℕ} {r : Answer} {b : Bag} (H : Holds w b) (i : ℕ) (P : Tells refused (getCall i) w r) (l : i < lengthOf b) where
-  found : r ≡ (let f = bagGet b i in record { number = 0; value = f .element; compared = f .compared })
-  found = P .holds b H ∙ get-done b i l
+  module _ (P : Edits (removeCall i) w r w′) where
+    pub remove-past-the-end : lengthOf b ≤ i → r ≡ answer 2 0 0
+    remove-past-the-end l = done P H _ (remove-beyond b i l) .0
 
-  pub get-as-vec : (r .number ≡ 0) × (r .value ≡ getD (listOf (b .root)) i 0)
-  get-as-vec =
-      (ap (λ (a : Answer). a .number) found, ap (λ (a : Answer). a .value) found ∙ bag-get b i (H .lawful .fit) l)
+    pub remove-as-vec : i < lengthOf b → (r ≡ answer 0 (getD (listOf (b .root)) i 0) 0) × Lists w′ (removeAt (listOf (b .root)) i)
+    remove-as-vec l =
+        let D = done P H _ (remove-done b i l) in
+        let R = bag-remove b i (H .lawful .fit) l in
+        (D .0 ∙ ap (λ (v : ℕ). answer 0 v 0) (R .old), (bagRemove b i .bag, D .1, R .edited .list))
 
-  -- demand 3's bound on comparisons
-  pub get-compares : (m : ℕ) → 1 ≤ m → lengthOf b < 2 * 16 ^ m - 1 → r .compared ≤ 32 * (m - 1)
-  get-compares m one few = rw (ap (λ (a : Answer). a .compared) found) (compared-most b i (H .lawful .fit) l m one few)
+module _ {w w′ : List ℕ} {r : Answer} {b : Bag} (H : Holds w b) (x : ℕ) (P : Edits (pushCall x) w r w′) where
+  pub push-without-room : length (b .free) < needed (b .root) (lengthOf b) → r ≡ answer 3 0 0
+  push-without-room n = done P H _ (push-at-end x b ∙ insert-full b (lengthOf b) x (omega arith) n) .0
+
+  pub push-as-vec : needed (b .root) (lengthOf b) ≤ length (b .free) → (r ≡ answer 0 0 0) × Lists w′ (listOf (b .root) ++ (x ∷ []))
+  push-as-vec n =
+      let D = done P H _ (push-at-end x b ∙ insert-done b (lengthOf b) x (omega arith) n) in
+      let E = bag-insert b (lengthOf b) x (H .lawful .fit) (omega arith) n .edited .list in
+      (D .0, (bagInsert b (lengthOf b) x, D .1, E ∙ insertAt-end (listOf (b .root)) x))
+
+  -- demand 3's room rule
+  pub push-with-room : lengthOf b < 15 * nodesIn (length w) → r ≡ answer 0 0 0
+  push-with-room n = push-as-vec (room-for H (lengthOf b) (omega arith) n) .0
+
+module _ {w : List ℕ} {r : Answer} {b : Bag} (H : Holds w b) where
+  pub check-as-vec : Tells refused checkCall w r → r ≡ answer 0 0 0
+  check-as-vec P = P .holds b H ∙ check-done b
+
+  pub len-as-vec : Tells refused lenCall w r → r ≡ answer 0 (length (listOf (b .root))) 0
+  len-as-vec P = P .holds b H ∙ len-done b
+
+  module _ (i : ℕ) (P : Tells refused (getCall i) w r) where
+    pub get-past-the-end : lengthOf b ≤ i → r ≡ answer 2 0 0
+    get-past-the-end l = P .holds b H ∙ get-beyond b i l
+
+    -- with the comparisons of 01's module 5
+    pub get-as-vec : i < lengthOf b → r ≡ answer 0 (getD (listOf (b .root)) i 0) (bagGet b i .compared)
+    get-as-vec l = P .holds b H ∙ get-done b i l ∙ ap (λ (v : ℕ). answer 0 v (bagGet b i .compared)) (bag-get b i (H .lawful .fit) l)
+
+    -- demand 3's bound on comparisons
+    pub get-compares : i < lengthOf b → (m : ℕ) → 1 ≤ m → lengthOf b < 2 * 16 ^ m - 1 → r .compared ≤ 32 * (m - 1)
+    get-compares l m one few = rw (get-as-vec l) (compared-most b i (H .lawful .fit) l m one few)
+
+-- a walk; a step is a skip of no elements
+module _ {w : List ℕ} {r : Walked} {b : Bag} (H : Holds w b) (p : ℕ) where
+  module _ (m : ℕ) (P : Tells (stays p) (skipCall p m) w r) where
+    pub skip-past-the-end : lengthOf b ≤ p + m → r ≡ walked 2 0 (lengthOf b)
+    skip-past-the-end l = P .holds b H ∙ skip-beyond b p m (omega arith)
+
+    pub skip-as-vec : p + m < lengthOf b → r ≡ walked 0 (getD (listOf (b .root)) (p + m) 0) (p + m + 1)
+    skip-as-vec l =
+        P .holds b H ∙ skip-done b p m (omega arith)
+        ∙ ap (λ (x : ℕ). walked 0 x (p + m + 1)) (bag-get b (p + m) (H .lawful .fit) l)
+
+  module _ (P : Tells (stays p) (skipCall p 0) w r) where
+    pub step-past-the-end : lengthOf b ≤ p → r ≡ walked 2 0 (lengthOf b)
+    step-past-the-end l = skip-past-the-end 0 P (omega arith)
+
+    pub step-as-vec : p < lengthOf b → r ≡ walked 0 (getD (listOf (b .root)) p 0) (p + 1)
+    step-as-vec l = rw add-zero at (skip-as-vec 0 P (omega arith))
+
+module _ {v w : List ℕ} {r : Answer} {a b : Bag} (G : Holds v a) (H : Holds w b) (P : Compares v w r) where
+  pub equal-as-vec : listOf (a .root) ≡ listOf (b .root) → r ≡ answer 0 1 0
+  equal-as-vec e = P .holds a G .holds b H ∙ equal-same a b e
+
+  pub unequal-as-vec : (listOf (a .root) ≡ listOf (b .root) → ⊥) → r ≡ answer 0 0 0
+  unequal-as-vec n = P .holds a G .holds b H ∙ equal-differ a b n
+
+pub format-as-vec : {w w′ : List ℕ} {r : Answer} → Formats w r w′ → Sized w → (r ≡ answer 0 0 0) × Lists w′ []
+unfolding empty listOf
+format-as-vec {w} {w′} P s =
+    let p : ℕ = nodesIn (length w) in
+    (P .fits s .0, (empty p, subst (λ (v : List ℕ). Holds v (empty p)) (sym (P .fits s .1)) (holds-empty p (fits-true (length w) s .few)), refl))
+
+-- ---- demand 3: every accepted call leaves a sound pool, with every node in the tree or free, once
+
+pub accepted-sound : {call : Bag → Outcome} {w w′ : List ℕ} {r : Answer} → Edits call w r w′ → r .number ≡ 0 → Sound w′
+accepted-sound {call} {w} P e =
+    decided w (λ n. absurd (omega (arith, ap (λ (a : Answer). a .number) (P .misfit n .0))))
+    (λ s u. absurd (omega (arith, ap (λ (a : Answer). a .number) (P .unsound s u .0))))
+    (λ b H. (call b .bag, P .holds b H .1))
+
+pub format-sound : {w w′ : List ℕ} {r : Answer} → Formats w r w′ → Sized w → Sound w′
+format-sound P s = let L = format-as-vec P s .1 in (L .0, L .1)
+
+pub every-node-once : {w : List ℕ} {b : Bag} → Holds w b → (k : ℕ) → 1 ≤ k → k ≤ nodesIn (length w) → met k b ≡ 1
+every-node-once H k l m = H .lawful .once k ∙ count-in k 1 (H .nodes) l (omega (arith, nodes-held H))
+
+pub no-other-node : {w : List ℕ} {b : Bag} → Holds w b → (k : ℕ) → (k ≡ 0) ⊎ (nodesIn (length w) < k) → met k b ≡ 0
+no-other-node {w} H k o = H .lawful .once k ∙ count-out k 1 (H .nodes) (outside o)
+  where
+    outside : (k ≡ 0) ⊎ (nodesIn (length w) < k) → (k < 1) ⊎ (1 + H .nodes ≤ k)
+    outside (inl e) = inl (omega arith)
+    outside (inr l) = inr (omega (arith, nodes-held H))
