@@ -26,6 +26,10 @@ noneLends = pushes 48 ++ (remove 47 ∷ [])
 abbrev freed3 : List ℕ → List ℕ
 freed3 a = pool 2 3 (leaf a ∷ nodeBlock 46 (32 ∷ []) (1 ∷ 4 ∷ []) ∷ freeBlock 0 ∷ leaf (from 33 15) ∷ [])
 
+-- or node 4: the root has 16, the leaves are nodes 1 and 3
+abbrev freed4 : List ℕ → List ℕ
+freed4 b = pool 2 4 (leaf (from 1 15) ∷ nodeBlock 46 (16 ∷ []) (1 ∷ 3 ∷ []) ∷ leaf b ∷ freeBlock 0 ∷ [])
+
 -- 16 k and the n - 1 multiples of 16 after it, and n leaves of 15 elements, each after one of them
 abbrev sixteens : ℕ → ℕ → List ℕ
 sixteens k n = map (λ j. 16 * j) (from k n)
@@ -70,13 +74,12 @@ ours =
     after 3 L32 (remove 14) (answer 0 15 0) (three 31 17 (from 1 14 ++ (16 ∷ [])) (from 18 15)) ∷
     -- WithLeft, both thin, and with no right; WithRight, with no left
     after 4 noneLends (remove 30) (answer 0 31 0) (freed3 (from 1 30)) ∷
-    after 4 noneLends (remove 46) (answer 0 47 0)
-    (pool 2 4 (leaf (from 1 15) ∷ nodeBlock 46 (16 ∷ []) (1 ∷ 3 ∷ []) ∷ leaf (from 17 30) ∷ freeBlock 0 ∷ [])) ∷
+    after 4 noneLends (remove 46) (answer 0 47 0) (freed4 (from 17 30)) ∷
     after 4 noneLends (remove 0) (answer 0 1 0) (freed3 (from 2 30)) ∷
-    -- at a separator: ByLast, though the right could give too; ByFirst, the left thin; ByMerge
+    -- at a separator: ByLast, though the right could give too; ByFirst, though the thin left could borrow; ByMerge, though it could merge
     after 3 (L32 ++ (insert 0 99 ∷ [])) (remove 16) (answer 0 16 0) (three 32 15 (99 ∷ from 1 14) (from 17 16)) ∷
-    after 4 lastLends (remove 31) (answer 0 32 0) (four 47 16 33 (from 1 15) (from 17 15) (from 34 15)) ∷
-    after 4 noneLends (remove 15) (answer 0 16 0) (freed3 (from 1 15 ++ from 17 15)) ∷
+    after 4 bothLend (remove 32) (answer 0 32 0) (four 48 16 33 (99 ∷ from 1 15) (from 17 15) (from 34 15)) ∷
+    after 4 noneLends (remove 31) (answer 0 32 0) (freed4 (from 17 15 ++ from 33 15)) ∷
     -- two levels: node 2 borrows from node 35, a child goes along, and then node 1 merges with node 3
     after 36 (pushes 528) (remove 0) (answer 0 1 0)
     (deep 3 527 272 (leaf (from 2 30) ∷ nodeBlock 270 (sixteens 2 15) (1 ∷ from 4 15) ∷ freeBlock 0 ∷ leaves 2 30)
