@@ -1,8 +1,13 @@
--- The one claim: every row of the table holds. The checker computes it.
+-- The one claim, for 01's rows and for ours: every row of the table holds. The checker computes it.
 use lib.Dec.{T}
 use Rattle.rows.specs.Row.{allHold}
 use Rattle.rows.specs.Table.{rows}
+use Rattle.rows.specs.Ours.{ours}
 
 pub rows-hold : T (allHold rows)
 unfolding rows allHold
 rows-hold = tt
+
+pub our-rows-hold : T (allHold ours)
+unfolding ours allHold
+our-rows-hold = tt

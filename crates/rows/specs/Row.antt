@@ -1,35 +1,55 @@
--- A row of 01's bench examples, and the test that says whether it holds.
+-- A row of a table of examples, its answers written out in numbers, and the test that says whether it holds.
 use mathlib.Core.List.{List, [], _∷_}
-use mathlib.Core.Bool.{Bool, true, not, _&&_}
+use mathlib.Core.Bool.{Bool, true, _&&_}
 use Prim.Native.Nat.{ℕ}
 use lib.Dec.{eqb}
 use Rattle.lists.specs.Lists.{same}
 use Rattle.model.specs.declared.Answer.{Answer}
+use Rattle.model.specs.declared.Walked.{Walked}
 use Rattle.model.specs.Tree.{Bag, empty}
-use Rattle.model.specs.Calls.{Outcome, outcome, insertCall, pushCall, getCall, removeCall}
+use Rattle.model.specs.Calls.{Outcome, outcome, insertCall, pushCall, replaceCall, removeCall}
+use Rattle.model.specs.Calls.{checkCall, lenCall, getCall, skipCall, stays, equalCall}
 use Rattle.pool.specs.Layout.{words}
-use Rattle.pool.specs.Sound.{nodesIn, fits}
+use Rattle.pool.specs.Sound.{nodesIn, formatAnswer}
 
 pub data Call : Type 0 where
+  check len : Call
   push get remove : ℕ → Call
-  insert : ℕ → ℕ → Call
+  insert replace : ℕ → ℕ → Call
+
+-- 01's number, the value, the comparisons
+abbrev pub answer : ℕ → ℕ → ℕ → Answer
+answer n v c = record { number = n; value = v; compared = c }
+
+-- 01's number, the element, the position
+abbrev pub walked : ℕ → ℕ → ℕ → Walked
+walked n x p = record { number = n; element = x; position = p }
 
 pub data Row : Type 0 where
-  -- a pool of n words has p nodes; or n fits no pool
+  -- formatting n words gives an answer; or it gives 0, and they are p nodes
+  formats : ℕ → Answer → Row
   nodes : ℕ → ℕ → Row
-  misfit : ℕ → Row
   -- in an empty pool of p nodes some calls all answer 0, and then one more gives an answer and leaves these words
   after : ℕ → List Call → Call → Answer → List ℕ → Row
+  -- or a walk, at a position and past m elements, gives an answer
+  walks : ℕ → List Call → ℕ → ℕ → Walked → Row
+  -- or the list is compared with one that was made likewise
+  equals : ℕ → List Call → ℕ → List Call → Answer → Row
+  -- a walk at a position is refused with n
+  stops : ℕ → ℕ → Walked → Row
 
 -- ---- the test
 
 -- what a call answers and leaves
 unfoldable pub ask : Call → Bag → Outcome
-unfolding pushCall insertCall getCall removeCall
+unfolding pushCall insertCall replaceCall getCall lenCall removeCall
+ask check b = outcome (checkCall b) b
+ask len b = outcome (lenCall b) b
 ask (push x) b = pushCall x b
 ask (get i) b = outcome (getCall i b) b
 ask (remove i) b = removeCall i b
 ask (insert i x) b = insertCall i x b
+ask (replace i x) b = replaceCall i x b
 
 -- each of the calls answers 0, and the bag that they leave passes a test
 unfoldable pub accepted : List Call → Bag → (Bag → Bool) → Bool
@@ -42,15 +62,22 @@ accepted (c ∷ cs) b test =
 unfoldable pub sameAnswer : Answer → Answer → Bool
 sameAnswer a b = eqb (a .number) (b .number) && eqb (a .value) (b .value) && eqb (a .compared) (b .compared)
 
+unfoldable pub sameWalk : Walked → Walked → Bool
+sameWalk a b = eqb (a .number) (b .number) && eqb (a .element) (b .element) && eqb (a .position) (b .position)
+
 unfoldable pub holds : Row → Bool
-unfolding accepted sameAnswer same empty fits words
-holds (nodes n p) = fits n && eqb (nodesIn n) p
-holds (misfit n) = not (fits n)
+unfolding accepted sameAnswer sameWalk same empty formatAnswer words skipCall equalCall
+holds (formats n a) = sameAnswer (formatAnswer n) a
+holds (nodes n p) = sameAnswer (formatAnswer n) (answer 0 0 0) && eqb (nodesIn n) p
 holds (after p calls c a w) =
     accepted calls (empty p)
     (λ b.
     let o = ask c b in
     sameAnswer (o .answer) a && same (words p (o .bag)) w)
+holds (walks p calls at m a) = accepted calls (empty p) (λ b. sameWalk (skipCall at m b) a)
+holds (equals p calls q others a) =
+    accepted calls (empty p) (λ b. accepted others (empty q) (λ c. sameAnswer (equalCall b c) a))
+holds (stops at n a) = sameWalk (stays at n) a
 
 unfoldable pub allHold : List Row → Bool
 unfolding holds
