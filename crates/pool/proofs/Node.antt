@@ -7,14 +7,16 @@ use lib.ListN.{length, getD, replicate, getD-replicate, length-append, length-re
 use lib.Seq.{getD-append-add, getD-at, ext-getD}
 use Rattle.lists.proofs.All.{all-of, map-same}
 use Rattle.words.specs.Words.{run}
-use Rattle.words.proofs.Laws.{run-length, run-getD}
+use Rattle.words.proofs.Laws.{run-length, run-getD, run-run}
 use Rattle.model.specs.Tree.{Tree, kid, none, size}
 use Rattle.model.specs.Fit.{Fit}
 use Rattle.model.proofs.Nodes.{most}
-use Rattle.pool.specs.Layout.{block, slots, nodeBlock, freeBlock, idOf, kidIds, rootBlock}
+use Rattle.model.proofs.Spans.{NodeOf, root, kids}
+use Rattle.pool.specs.Layout.{start, block, slots, nodeBlock, freeBlock, idOf, kidIds, rootBlock}
 use Rattle.pool.specs.Parts.{Stored, At, countAt, lengthAt, kidAt, elemsAt, kidIdsAt}
 use Rattle.pool.specs.Find.{kidLengths, Inner}
 use Rattle.pool.proofs.Block.{length-block}
+use Rattle.pool.proofs.Store.{run-block}
 use Rattle.pool.proofs.Blocks.{length-slots, most-kids}
 use Rattle.pool.proofs.Slots.{slots-getD}
 
@@ -90,6 +92,18 @@ module _ (w : List ℕ) (h : ℕ) (t : Tree h) (S : Stored w (t .id) (rootBlock 
       rw at-count
       (run-is (block w (t .id)) (t .elems) 2 (length (t .elems)) refl (omega (arith, length-block w (t .id) (S .inside))) (λ i l.
       at-elem i (omega arith)))
+
+  -- some of its elements, where they stand in the pool
+  pub elems-part : length (t .elems) ≤ 31 → (c n : ℕ) → c + n ≤ length (t .elems) → run w (start (t .id) + 2 + c) n ≡ run (t .elems) c n
+  elems-part m c n l =
+      let e : start (t .id) + 2 + c ≡ start (t .id) + (2 + c) = omega arith in
+      rw (e, run-block w (t .id) (2 + c) n (omega arith))
+      (sym (run-run (block w (t .id)) 2 (countAt w (t .id)) c n (omega (arith, at-count))) ∙ rw (elems-read m))
+
+-- each node of a tree stands where the tree does
+pub at-node : {w : List ℕ} {g h : ℕ} {u : Tree g} {t : Tree h} → NodeOf g u h t → At w h t → At w g u
+at-node root A = A
+at-node (kids c l N) A = at-node N (A .each c l)
 
 pub at-leaf : (w : List ℕ) (t : Tree 0) → Stored w (t .id) (rootBlock 0 t) → length (t .elems) ≤ 31 → (c : ℕ) → c < 32
     → kidAt w (t .id) c ≡ 0
