@@ -16,9 +16,9 @@ use Rattle.model.specs.declared.Walked.{Walked}
 use Rattle.model.specs.Tree.{Bag, empty, listOf, met, bagGet, bagReplace}
 use Rattle.model.specs.Insert.{needed, bagInsert}
 use Rattle.model.specs.Remove.{bagRemove}
-use Rattle.model.specs.Calls.{refused, lengthOf, Outcome, outcome, stays, insertCall, pushCall, replaceCall, removeCall}
+use Rattle.model.specs.Calls.{answer, walked, refused, lengthOf, Outcome, outcome, stays, insertCall, pushCall, replaceCall, removeCall}
 use Rattle.model.specs.Calls.{checkCall, lenCall, getCall, skipCall, equalCall}
-use Rattle.model.proofs.Calls.{answer, walked, Keeps, insert-beyond, insert-full, insert-done, push-at-end, replace-beyond, replace-done}
+use Rattle.model.proofs.Calls.{Keeps, insert-beyond, insert-full, insert-done, push-at-end, replace-beyond, replace-done}
 use Rattle.model.proofs.Calls.{remove-beyond, remove-done, check-done, len-done, get-beyond, get-done, skip-beyond, skip-done}
 use Rattle.model.proofs.Calls.{equal-same, equal-differ, Zeros, equal-zeros, skip-zeros, equal-numbers}
 use Rattle.model.proofs.Bags.{bag-get, bag-replace, bag-insert, bag-remove}

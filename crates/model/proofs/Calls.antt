@@ -17,15 +17,8 @@ use Rattle.model.specs.declared.Walked.{Walked}
 use Rattle.model.specs.Tree.{Bag, listOf, bagGet, bagReplace}
 use Rattle.model.specs.Insert.{needed, bagInsert}
 use Rattle.model.specs.Remove.{bagRemove}
-use Rattle.model.specs.Calls.{lengthOf, Outcome, outcome, refuse, insertCall, pushCall, replaceCall, removeCall}
+use Rattle.model.specs.Calls.{answer, walked, lengthOf, Outcome, outcome, refuse, insertCall, pushCall, replaceCall, removeCall}
 use Rattle.model.specs.Calls.{checkCall, lenCall, getCall, skipCall, equalCall}
-
--- an answer in figures: number, value, comparisons; a walk's: number, element, position
-abbrev pub answer : ℕ → ℕ → ℕ → Answer
-answer n v c = record { number = n; value = v; compared = c }
-
-abbrev pub walked : ℕ → ℕ → ℕ → Walked
-walked n x p = record { number = n; element = x; position = p }
 
 -- ---- case by case
 

@@ -11,11 +11,18 @@ use Rattle.model.specs.Tree.{Tree, kid, size, findIn, find, atSeparator,
 use Rattle.model.specs.Insert.{bagInsert, needed}
 use Rattle.model.specs.Remove.{bagRemove}
 
+-- an answer in figures, and a walk's
+abbrev pub answer : ℕ → ℕ → ℕ → Answer
+answer n v c = record { number = n; value = v; compared = c }
+
+abbrev pub walked : ℕ → ℕ → ℕ → Walked
+walked n x p = record { number = n; element = x; position = p }
+
 abbrev pub refused : ℕ → Answer
-refused n = record { number = n; value = 0; compared = 0 }
+refused n = answer n 0 0
 
 abbrev pub gives : ℕ → Answer
-gives v = record { number = 0; value = v; compared = 0 }
+gives v = answer 0 v 0
 
 abbrev pub lengthOf : Bag → ℕ
 lengthOf b = length (listOf (b .root))
@@ -70,19 +77,17 @@ unfoldable pub getCall : ℕ → Bag → Answer
 unfolding bagGet listOf
 getCall i b =
     let r = bagGet b i in
-    cond (leb (lengthOf b) i) (refused 2) (record { number = 0; value = r .element; compared = r .compared })
+    cond (leb (lengthOf b) i) (refused 2) (answer 0 (r .element) (r .compared))
 
 -- a walk at a position: m elements are passed, and the place after the one given is the next; none is given at or past the end
 unfoldable pub skipCall : ℕ → ℕ → Bag → Walked
 unfolding bagGet listOf
 skipCall p m b =
-    cond (leb (lengthOf b - p) m)
-    (record { number = 2; element = 0; position = lengthOf b })
-    (record { number = 0; element = bagGet b (p + m) .element; position = p + m + 1 })
+    cond (leb (lengthOf b - p) m) (walked 2 0 (lengthOf b)) (walked 0 (bagGet b (p + m) .element) (p + m + 1))
 
 -- a refused walk keeps its position
 abbrev pub stays : ℕ → ℕ → Walked
-stays p n = record { number = n; element = 0; position = p }
+stays p n = walked n 0 p
 
 unfoldable pub equalCall : Bag → Bag → Answer
 unfolding same listOf

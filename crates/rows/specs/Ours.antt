@@ -2,8 +2,9 @@
 use mathlib.Core.List.{List, [], _∷_, _++_, map}
 use Prim.Native.Nat.{ℕ, _+_, _*_}
 use Rattle.lists.specs.Lists.{concat, from}
+use Rattle.model.specs.Calls.{answer, walked}
 use Rattle.pool.specs.Layout.{nodeBlock, freeBlock}
-use Rattle.rows.specs.Row.{Call, check, len, push, get, remove, insert, replace, answer, walked, Row, after, walks, equals, stops}
+use Rattle.rows.specs.Row.{Call, check, len, push, get, remove, insert, replace, Row, after, walks, equals, stops}
 use Rattle.rows.specs.Table.{pushes, L32, pool, leaf, three, words32}
 
 -- n elements in 4 nodes: the root is node 2 with x and y, the leaves are nodes 1, 3 and 4

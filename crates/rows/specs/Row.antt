@@ -7,7 +7,7 @@ use Rattle.lists.specs.Lists.{same}
 use Rattle.model.specs.declared.Answer.{Answer}
 use Rattle.model.specs.declared.Walked.{Walked}
 use Rattle.model.specs.Tree.{Bag, empty}
-use Rattle.model.specs.Calls.{Outcome, outcome, insertCall, pushCall, replaceCall, removeCall}
+use Rattle.model.specs.Calls.{answer, Outcome, outcome, insertCall, pushCall, replaceCall, removeCall}
 use Rattle.model.specs.Calls.{checkCall, lenCall, getCall, skipCall, stays, equalCall}
 use Rattle.pool.specs.Layout.{words}
 use Rattle.pool.specs.Sound.{nodesIn, formatAnswer}
@@ -16,14 +16,6 @@ pub data Call : Type 0 where
   check len : Call
   push get remove : ℕ → Call
   insert replace : ℕ → ℕ → Call
-
--- 01's number, the value, the comparisons
-abbrev pub answer : ℕ → ℕ → ℕ → Answer
-answer n v c = record { number = n; value = v; compared = c }
-
--- 01's number, the element, the position
-abbrev pub walked : ℕ → ℕ → ℕ → Walked
-walked n x p = record { number = n; element = x; position = p }
 
 pub data Row : Type 0 where
   -- formatting n words gives an answer; or it gives 0, and they are p nodes

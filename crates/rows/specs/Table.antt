@@ -3,8 +3,9 @@ use mathlib.Core.List.{List, [], _∷_, _++_, map}
 use Prim.Native.Nat.{ℕ}
 use lib.ListN.{length}
 use Rattle.lists.specs.Lists.{concat, from}
+use Rattle.model.specs.Calls.{answer}
 use Rattle.pool.specs.Layout.{nodeBlock, freeBlock}
-use Rattle.rows.specs.Row.{Call, push, get, remove, insert, answer, Row, formats, nodes, after}
+use Rattle.rows.specs.Row.{Call, push, get, remove, insert, Row, formats, nodes, after}
 
 -- 1 to n pushed
 abbrev pub pushes : ℕ → List Call
