@@ -1,3 +1,4 @@
 pub mod Row
 pub mod Table
 pub mod Ours
+pub mod Bytes

@@ -11,6 +11,9 @@ use Rattle.model.specs.Calls.{answer, Outcome, outcome, insertCall, pushCall, r
 use Rattle.model.specs.Calls.{checkCall, lenCall, getCall, skipCall, stays, equalCall}
 use Rattle.pool.specs.Layout.{words}
 use Rattle.pool.specs.Sound.{nodesIn, formatAnswer}
+use Rattle.commands.specs.declared.Ran.{Ran}
+use Rattle.commands.specs.Steps.{batchFrom, batchOf}
+use Rattle.commands.specs.OnBag.{onBag, ranOf}
 
 pub data Call : Type 0 where
   check len : Call
@@ -29,6 +32,8 @@ pub data Row : Type 0 where
   equals : ℕ → List Call → ℕ → List Call → Answer → Row
   -- a walk at a position is refused with n
   stops : ℕ → ℕ → Walked → Row
+  -- in an empty pool of p nodes a batch of these bytes, with room for n bytes of output, gives this and writes these
+  runs : ℕ → List ℕ → ℕ → Ran → List ℕ → Row
 
 -- ---- the test
 
@@ -57,8 +62,12 @@ sameAnswer a b = eqb (a .number) (b .number) && eqb (a .value) (b .value) && eqb
 unfoldable pub sameWalk : Walked → Walked → Bool
 sameWalk a b = eqb (a .number) (b .number) && eqb (a .element) (b .element) && eqb (a .position) (b .position)
 
+unfoldable pub sameRun : Ran → Ran → Bool
+sameRun a b =
+    eqb (a .number) (b .number) && eqb (a .commands) (b .commands) && eqb (a .read) (b .read) && eqb (a .written) (b .written)
+
 unfoldable pub holds : Row → Bool
-unfolding accepted sameAnswer sameWalk same empty formatAnswer words skipCall equalCall
+unfolding accepted sameAnswer sameWalk sameRun same empty formatAnswer words skipCall equalCall batchFrom onBag
 holds (formats n a) = sameAnswer (formatAnswer n) a
 holds (nodes n p) = sameAnswer (formatAnswer n) (answer 0 0 0) && eqb (nodesIn n) p
 holds (after p calls c a w) =
@@ -70,6 +79,9 @@ holds (walks p calls at m a) = accepted calls (empty p) (λ b. sameWalk (skipCal
 holds (equals p calls q others a) =
     accepted calls (empty p) (λ b. accepted others (empty q) (λ c. sameAnswer (equalCall b c) a))
 holds (stops at n a) = sameWalk (stays at n) a
+holds (runs p input n r out) =
+    let e = batchOf onBag input n (empty p) in
+    sameRun (ranOf e) r && same (e .progress .answers) out
 
 unfoldable pub allHold : List Row → Bool
 unfolding holds
