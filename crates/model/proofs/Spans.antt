@@ -3,7 +3,7 @@
 use mathlib.Core.Path.{_≡_, refl, sym, ap, _∙_}
 use mathlib.Core.Bool.{Bool, true, false}
 use mathlib.Core.List.{List, [], _∷_, _++_}
-use Prim.Native.Nat.{ℕ, zero, suc, _+_, _-_, _≤_, _<_}
+use Prim.Native.Nat.{ℕ, zero, suc, _+_, _≤_, _<_}
 use native.Mathlib.Omega.{arith}
 use borrow.Author.Tests.{eqb-true, eqb-false}
 use lib.ListN.{length, take, drop, getD, length-append, length-take, length-drop}
@@ -123,8 +123,10 @@ here {h} {t} F l S = record { levels = h; holder = t; within = root; fit = F; no
 pub stretch-law : (h : ℕ) (t : Tree h) → Fit h t → (i : ℕ) → i < size h t → Spans h t i (stretch h t i)
 unfolding stretch size
 stretch-law zero t F i l =
-    here F (omega arith)
-    (rw (take-all (length (t .elems) - i) (drop i (t .elems)) (omega (arith, length-drop i (t .elems)))) (leaf l))
+    let s : Stretch = stretch zero t i in
+    let all : take (s .count) (drop (s .slot) (t .elems)) ≡ drop i (t .elems) =
+    take-all (s .count) (drop i (t .elems)) (omega (arith, length-drop i (t .elems))) in
+    here F (omega arith) (rw all (leaf l))
 stretch-law (suc h) t F i l =
     let w = step h t F i (omega arith) in
     go (atSeparator h t i) refl w (stretch-law h (into h t i) (w .below .fit) (find h t i .sub))

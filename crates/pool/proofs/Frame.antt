@@ -54,7 +54,7 @@ module _ (w w′ : List ℕ) (e : length w′ ≡ length w) where
 -- ---- a node of a tree, and one of a chain, lies in the pool
 
 module _ (w : List ℕ) where
-  pub at-inside : (h : ℕ) (t : Tree h) → At w h t → (k : ℕ) → 0 < count k (ids h t) → Inside w k
+  at-inside : (h : ℕ) (t : Tree h) → At w h t → (k : ℕ) → 0 < count k (ids h t) → Inside w k
   at-inside h t A k l = words-are (Stored w) k (at-cells w h t A) (rw (tree-ids h t) l) .inside
 
   pub chain-inside : (f : List ℕ) → ChainAt w f → (k : ℕ) → 0 < count k f → Inside w k

@@ -14,6 +14,8 @@ use Rattle.model.specs.Tree.{Tree, get, Root, bare, rooted, Bag, listOf}
 use Rattle.model.specs.Fit.{FitRoot}
 use Rattle.model.specs.Calls.{gives, lengthOf, equalCall}
 use Rattle.lists.proofs.Same.{same-self, same-other}
+use Rattle.words.specs.Words.{run}
+use Rattle.words.proofs.Laws.{run-length}
 use Rattle.model.proofs.Bags.{bag-get}
 use Rattle.model.proofs.Nodes.{flat-length, most}
 use Rattle.pool.specs.Layout.{start}
@@ -25,8 +27,6 @@ use Rattle.calls.specs.Does.{Ready}
 use Rattle.views.specs.Part.{nowhere, spanOf, rootSpan, partCall}
 use Rattle.model.specs.Calls.{stretch}
 use Rattle.model.proofs.Spans.{ShownRoot, root-shown-some, Spans, stretch-law}
-use Rattle.words.specs.Words.{run}
-use Rattle.words.proofs.Laws.{run-length}
 use Rattle.pool.proofs.Node.{elems-part, at-node}
 use Rattle.calls.proofs.Reading.{root-of, root-has, root-got}
 
@@ -112,8 +112,10 @@ module _ {w : List ℕ} {b : Bag} (B : BagStands w b) (i : ℕ) where
             let s : Stretch = stretch h t i in
             let S = stretch-law h t (F .fit) i (omega (arith, flat-length h t (F .fit))) in
             let u : Tree (S .levels) = S .holder in
-            let e = elems-part w (S .levels) u (at-node (S .within) A .here) (most (S .levels) u (S .fit)) (s .slot) (s .count) (S .few) in
-            rw (S .node, e) (unfold run in S .shown)
+            let e : run w (spanOf s .start) (s .count) ≡ run (u .elems) (s .slot) (s .count) =
+            rw (S .node)
+            (elems-part w (S .levels) u (at-node (S .within) A .here) (most (S .levels) u (S .fit)) (s .slot) (s .count) (S .few)) in
+            rw e (unfold run in S .shown)
 
     pub part-some : 1 ≤ partCall i b .count
     part-some =
