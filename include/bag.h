@@ -8,6 +8,9 @@
  * Every call answers, for any words, any length and any index. All but bag_format check the whole pool first, so that their time grows
  * with it (docs/BENCH.md). A call that answers 1 to 4 has changed no word. A field that a call does not give is 0.
  *
+ * The check sees the structure of a pool. A changed sample number is a legal one, and is not seen: keep a checksum beside a pool that
+ * leaves RAM.
+ *
  * The caller owes this much:
  * - a pointer is not null, and one to words is 8-aligned, also for a length of 0, and so much can be read (and written, if not const);
  * - what a call writes does not overlap what else it is lent;

@@ -3,6 +3,8 @@ pub mod bag;
 pub mod batches;
 pub mod calls;
 pub mod damage;
+pub mod digest;
+pub mod drill;
 pub mod mirror;
 pub mod model;
 pub mod ordinary;

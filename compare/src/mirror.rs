@@ -48,6 +48,15 @@ impl Mirror {
         self.list.len() as u64
     }
 
+    /// An error where the words that are due hold another shape than the original.
+    pub fn compare_shape(&self) -> Result<(), String> {
+        let words = self.model.words();
+        if !sound::same_shape(words, words[0], self.tree.shape()) {
+            return Err("the shape is not the original's".to_string());
+        }
+        Ok(())
+    }
+
     fn index(&self, index: u64) -> Option<usize> {
         (index < self.len()).then_some(index as usize)
     }

@@ -2,6 +2,7 @@
 use std::io::Write;
 
 use crate::batches;
+use crate::digest::rolled_words;
 use crate::mirror::Mirror;
 use crate::workload::Workload;
 
@@ -26,19 +27,12 @@ const BLOCKS: [(usize, usize); 14] = [
     (60, 24576),
 ];
 
-/// A digest with one more number in it, as in `crates/digest`.
-fn rolled(digest: u64, x: u64) -> u64 {
-    let sum = digest.wrapping_add(x).wrapping_add(0x9E37_79B9_7F4A_7C15);
-    let spread = sum.wrapping_add(sum << 10);
-    spread ^ spread >> 6
-}
-
 /// Writes a line that says how the list was made, then blocks, each a batch on a pool that is formatted before it: the pool's nodes and
 /// the bytes of commands, 4 bytes each and little-endian, and the commands. What is due for a block: the answers, a digest of the
 /// pool's words afterwards in 16 digits, and a line end.
 ///
-/// The commands are a workload's, for an odd block one that fills the pool first. What is due is what the mirror says: the library
-/// has no part in it. Gives the number of commands.
+/// The commands are a workload's, for an odd block one that fills the pool first. What is due is what the mirror says, whose shape is
+/// compared with the original's after each command: the library has no part in it. Gives the number of commands.
 pub fn write(list: &mut impl Write, due: &mut impl Write) -> Result<u64, Box<dyn std::error::Error>> {
     writeln!(list, "commands recorded beside the original Rust by `compare record LIST DUE` (compare/src/record.rs), seed {SEED}")?;
     let mut all = 0;
@@ -50,6 +44,7 @@ pub fn write(list: &mut impl Write, due: &mut impl Write) -> Result<u64, Box<dyn
         while commands.len() + 13 <= most {
             let Some(bytes) = batches::bytes(&workload.next(&mirror)) else { continue };
             let (_, answer) = batches::due(&mut mirror, &bytes, batches::LONGEST)?;
+            mirror.compare_shape()?;
             commands.extend(bytes);
             due.write_all(&answer)?;
             all += 1;
@@ -58,8 +53,7 @@ pub fn write(list: &mut impl Write, due: &mut impl Write) -> Result<u64, Box<dyn
             list.write_all(&(number as u32).to_le_bytes())?;
         }
         list.write_all(&commands)?;
-        let digest = mirror.model.words().iter().fold(0, |digest, &word| rolled(digest, word));
-        writeln!(due, "{digest:016x}")?;
+        writeln!(due, "{:016x}", rolled_words(0, mirror.model.words()))?;
     }
     Ok(all)
 }

@@ -71,15 +71,13 @@ impl Trial {
         if self.store[..GUARD].iter().chain(&self.store[GUARD + words..]).any(|w| *w != KEPT) {
             return Err("a word outside the pool is changed".to_string());
         }
-        let Mirror { tree, list, model, .. } = &self.mirror;
+        let Mirror { list, model, .. } = &self.mirror;
         let pool = &self.store[GUARD..GUARD + words];
         let due = model.words();
         if let Some(i) = (pool != due).then(|| (0..words).find(|i| pool[*i] != due[*i])).flatten() {
             return Err(format!("word {i} of the pool is {}, due is {}", pool[i], due[i]));
         }
-        if !sound::same_shape(pool, pool[0], tree.shape()) {
-            return Err("the shape is not the original's".to_string());
-        }
+        self.mirror.compare_shape()?;
         if sound::list(pool) != *list {
             return Err("the list is not Vec's".to_string());
         }

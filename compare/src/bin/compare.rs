@@ -1,6 +1,6 @@
 //! Long random call sequences on the library, the original, a `Vec` and the driver's own model of 01, with every difference shown.
 //!
-//!     compare short SEED | compare long SEED | compare record LIST DUE
+//!     compare short SEED | compare long SEED | compare record LIST DUE | compare drill DUE
 use std::process::exit;
 use std::time::Instant;
 
@@ -9,7 +9,7 @@ use compare::refusals::{try_damage, try_lengths, Finding};
 use compare::shrink::{run, shrink};
 use compare::trial::Trial;
 use compare::workload::Workload;
-use compare::{batches, program, record};
+use compare::{batches, drill, program, record};
 
 #[derive(Default)]
 struct Tally {
@@ -135,22 +135,23 @@ fn compare(plan: Plan, seed: u64) -> Tally {
 }
 
 fn usage() -> ! {
-    eprintln!("usage: compare short SEED | compare long SEED | compare record LIST DUE");
+    eprintln!("usage: compare short SEED | compare long SEED | compare record LIST DUE | compare drill DUE");
     exit(2)
 }
 
 fn main() -> Result<(), Box<dyn std::error::Error>> {
     let words: Vec<String> = std::env::args().skip(1).collect();
     let words: Vec<&str> = words.iter().map(String::as_str).collect();
+    let create = |file| std::fs::File::create(file).map(std::io::BufWriter::new);
     let (plan, seed) = match words[..] {
         ["short", seed] => (SHORT, seed.parse()?),
         ["long", seed] => (LONG, seed.parse()?),
         ["record", list, due] => {
-            let create = |file| std::fs::File::create(file).map(std::io::BufWriter::new);
             let commands = record::write(&mut create(list)?, &mut create(due)?)?;
             println!("{commands} commands");
             return Ok(());
         }
+        ["drill", due] => return drill::write(&mut create(due)?),
         _ => usage(),
     };
     if !program::path().exists() {

@@ -94,6 +94,15 @@ pub fn kid_at(pool: &[u64], k: usize, c: usize) -> usize
     kid(&pool[a..a + NODE_WORDS], c)
 }
 
+// Whether it has none.
+pub fn leaf_at(pool: &[u64], k: usize) -> bool
+    requires { ⌜ Inside (now pool) k ⌝ }
+    ensures { λ r. ⌜ r ≡ eqb (kidAt (now (pool .entry)) k 0) 0 ⌝ }
+{
+    let a = start_of(k);
+    is_leaf(&pool[a..a + NODE_WORDS])
+}
+
 pub fn is_leaf(node: &[u64]) -> bool
     requires { ⌜ length (now node) ≡ nodeWords ⌝ }
     ensures { λ r. ⌜ r ≡ eqb (getD (now (node .entry)) 33 0) 0 ⌝ }

@@ -2,6 +2,7 @@
 use marks::claim;
 use pool::count_at;
 use pool::kid_at;
+use pool::leaf_at;
 ghost use mathlib.Core.Path.{_≡_};
 ghost use Prim.Native.Nat.{_+_, _*_, _^_, _<_, _≤_};
 ghost use lib.ListN.{length};
@@ -77,7 +78,7 @@ fn grown(pool: &[u64], p: usize, marks: &mut [u64], k: usize, levels: usize, lea
         return false;
     }
     if levels == 0 {
-        return kid_at(pool, k, 0) == 0;
+        return leaf_at(pool, k);
     }
     grown_kids(pool, p, marks, k, levels - 1)
 }

@@ -12,6 +12,7 @@ use pool::NODE_WORDS;
 use pool::ROOT_WORD;
 use pool::count_at;
 use pool::kid_at;
+use pool::leaf_at;
 use pool::length_at;
 use pool::length_fits;
 use pool::start_of;
@@ -99,7 +100,7 @@ fn filled(pool: &[u64], k: usize) -> bool
     ensures { λ r. ⌜ Decides r (Filled (now (pool .entry)) k) ⌝ }
 {
     let n = count_at(pool, k);
-    if kid_at(pool, k, 0) == 0 {
+    if leaf_at(pool, k) {
         return length_at(pool, k) == n && zeros_at(pool, k, ELEMS + n, NODE_WORDS);
     }
     if !zeros_at(pool, k, ELEMS + n, KIDS) {

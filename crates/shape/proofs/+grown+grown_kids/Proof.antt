@@ -1,12 +1,11 @@
 -- `grown` and `grown_kids`, which call each other, meet their contracts. Measures: twice the levels, and one more for the children.
 -- Invariant of the loop: the children before c are well grown, and their nodes are marked.
-use mathlib.Core.Path.{refl, ap}
+use mathlib.Core.Path.{refl}
 use Prim.Native.Nat.{ℕ, _+_, _-_, _*_, _<_}
 use native.Mathlib.Omega.{arith}
 use borrow.Author.Tests.{not-true, not-false}
 use borrow.Fn.Kinds.{In}
 use borrow.Fn.PlainCycle.{Measures, is, falls, and}
-use lib.Dec.{eqb}
 use Rattle.pool.specs.Parts.{countAt}
 use Rattle.shape.proofs.Growth.{inside, reach-below}
 use Rattle.shape.proofs.Walk.{not-sturdy, met-twice, leaf-found, inner-found}
@@ -20,6 +19,7 @@ use Rattle.shape.proofs.+grown+grown_kids.Lts-grown_kids as kids-lts
 use Rattle.marks.proofs.claim.Reads as claim-reads
 use Rattle.pool.proofs.count_at.Reads as count-at-reads
 use Rattle.pool.proofs.kid_at.Reads as kid-at-reads
+use Rattle.pool.proofs.leaf_at.Reads as leaf-at-reads
 use Rattle.shape.proofs.sturdy.Reads as sturdy-reads
 use Rattle.shape.proofs.+grown+grown_kids.{statement}
 use Rattle.shape.proofs.+grown+grown_kids.Tie.{close}
@@ -55,8 +55,8 @@ module _ (t : ℕ) where
     sturdy-reads.Learnt,
     claim-reads.Asked,
     claim-reads.Learnt,
-    kid-at-reads.Asked,
-    kid-at-reads.Learnt,
+    leaf-at-reads.Asked,
+    leaf-at-reads.Learnt,
     kids-below,
     kids.Post,
   )
@@ -80,18 +80,18 @@ module _ (t : ℕ) where
       let S = d .before .before .before .sturdy .ensures .good (not-false _ (d .before .before .if1 .left)) in
       met-twice _ _ _ _ _ _ (d .claim .ensures .long) (S .some) (d .claim .ensures .again (not-true _ (c .if2 .taken)) .0)
 
-  kid-at-requires : grown-lts.Need-kid-at-requires grown-claims grown-at grown.Post
-  kid-at-requires c κs =
+  leaf-at-requires : grown-lts.Need-leaf-at-requires grown-claims grown-at grown.Post
+  leaf-at-requires c κs =
       let d = c .before .before .before .before in
       let S = d .before .before .before .sturdy .ensures .good (not-false _ (d .before .before .if1 .left)) in
-      (inside _ _ (d .before .before .before .before .before .before .pre .1 .0 .exact) S, omega arith)
+      inside _ _ (d .before .before .before .before .before .before .pre .1 .0 .exact) S
 
   returns-3 : grown-lts.Need-returns-3 grown-claims grown-at grown.Post
   returns-3 c =
       let d = c .before .before .before .before .before in
       let S = d .before .before .before .sturdy .ensures .good (not-false _ (d .before .before .if1 .left)) in
       leaf-found _ _ _ _ _ _ _ S (d .claim .ensures .fresh (not-false _ (c .before .before .if2 .left)) .1) (d .claim .ensures .long)
-      (c .before .if3 .taken) _ (ap (λ (n : ℕ). eqb n 0) (c .kid-at .ensures))
+      (c .before .if3 .taken) _ (c .leaf-at .ensures)
 
   grown-kids-requires : grown-lts.Need-grown-kids-requires grown-claims grown-at grown.Post
   grown-kids-requires c κs =
@@ -109,8 +109,8 @@ module _ (t : ℕ) where
 
   -- ---- grown_kids
 
-  kid-at-requires-2 : kids-lts.Need-kid-at-requires kids-claims kids-at kids.Post Inv-loop μ-loop
-  kid-at-requires-2 c κs = (record { some = omega arith; room = omega arith }, omega (arith, c .before .before .before .count-at .ensures))
+  kid-at-requires : kids-lts.Need-kid-at-requires kids-claims kids-at kids.Post Inv-loop μ-loop
+  kid-at-requires c κs = (record { some = omega arith; room = omega arith }, omega (arith, c .before .before .before .count-at .ensures))
 
   kids-returns : kids-lts.Need-returns kids-claims kids-at kids.Post Inv-loop μ-loop
   kids-returns c =
@@ -136,9 +136,9 @@ pub +grown+grown-kids-spec : {M : Type 1} → statement M
     close μ-grown μ-kids
     (λ t.
     grown-lts.spec (grown-claims t) (grown-at t) grown.Post (λ c κs. omega arith) (returns t) (claim-requires t) (λ c. omega arith)
-    (returns-2 t) (kid-at-requires t) (λ c. omega arith) (returns-3 t) (λ c. omega arith) (grown-kids-requires t) (λ c. omega arith)
+    (returns-2 t) (leaf-at-requires t) (λ c. omega arith) (returns-3 t) (λ c. omega arith) (grown-kids-requires t) (λ c. omega arith)
     (returns-4 t))
     λ t. kids-lts.spec (kids-claims t) (kids-at t) kids.Post Inv-loop μ-loop (λ c κs. record { some = omega arith; room = omega arith })
     (λ c. walked-none _ _ _ _ _)
-    (kid-at-requires-2 t) (λ c κs. omega (arith, c .before .before .before .loop .inv .long)) (λ c. omega arith) (kids-returns t)
+    (kid-at-requires t) (λ c κs. omega (arith, c .before .before .before .loop .inv .long)) (λ c. omega arith) (kids-returns t)
     (λ c. omega arith) (λ c. omega arith) (loop-again t) (λ c. omega arith) (kids-returns-2 t)
