@@ -2,3 +2,4 @@
 pub mod Singly
 pub mod Room
 pub mod One
+pub mod Demands

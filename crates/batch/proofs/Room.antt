@@ -1,4 +1,5 @@
--- How much a batch writes: at most 9 bytes for a byte read, so that an output of 9 bytes for each and 4 more never stops it with 7.
+-- How much a batch writes: never more than the output holds; and at most 9 bytes for a byte read, so that an output of 9 bytes for each and
+-- 4 more never stops it with 7.
 use mathlib.Core.Path.{_≡_, refl, subst}
 use mathlib.Core.List.{List}
 use mathlib.Core.Bool.{Bool, true, false, cond}
@@ -13,14 +14,16 @@ use Rattle.records.specs.declared.Command.{Command}
 use Rattle.records.specs.declared.Command.the-variants.{Insert, Remove, Push, Get, Replace, Len}
 use Rattle.records.specs.declared.Record.the-variants.{Refusal}
 use Rattle.records.specs.Answers.{recordBytes}
-use Rattle.records.proofs.Laws.{Bodied, Fits, next-fits}
+use Rattle.records.proofs.Laws.{Bodied, Fits, next-fits, record-length}
 use Rattle.commands.specs.declared.Ran.{Ran}
 use Rattle.commands.specs.declared.Turn.{Turn}
 use Rattle.commands.specs.declared.Turn.the-variants.{Stop, Run}
 use Rattle.commands.specs.Steps.{turnAt, Progress, Ended, start, advanced, batchFrom, batchOf}
 use Rattle.commands.specs.OnBag.{perform, given, replyTo, onBag}
-use Rattle.batch.specs.Batch.{Batches}
 use Rattle.commands.proofs.Turns.{Runnable, runnable, Open, stays-open, batch-stops, batch-goes}
+use Rattle.batch.specs.Batch.{Batches}
+use Rattle.batch.specs.Singly.{Stage, Singly, none, next}
+use Rattle.batch.proofs.Singly.{one-by-one}
 
 given-small : (c : Command) (a : Answer) (n : ℕ) → 1 ≤ n → Bodied c (n - 1) → length (recordBytes (given c a)) ≤ 9 * n
 unfolding recordBytes
@@ -50,7 +53,8 @@ module _ (input : List ℕ) (size : ℕ) (wide : 9 * length input + 4 ≤ size) 
   one-more : (left : ℕ) → ((p : Progress Bag) → length input ≤ p .read + left → Light input p → Never7 (batchFrom onBag input size left p))
       → (p : Progress Bag) → length input ≤ p .read + suc left → Light input p → Never7 (batchFrom onBag input size (suc left) p)
   unfolding onBag
-  one-more left ih p enough l = go (turnAt input (p .read) room) refl (runnable input (p .read) room) (stays-open input (p .read) room (λ h. omega arith))
+  one-more left ih p enough l =
+      go (turnAt input (p .read) room) refl (runnable input (p .read) room) (stays-open input (p .read) room (λ h. omega arith))
     where
       room : ℕ
       room = size - length (p .answers)
@@ -74,11 +78,23 @@ module _ (input : List ℕ) (size : ℕ) (wide : 9 * length input + 4 ≤ size) 
   pub never-7 : (b : Bag) → Never7 (batchOf onBag input size b)
   never-7 b = never7 (length input) (start b) (omega arith) (omega arith, omega arith)
 
--- what a batch wrote then lies in the output, whatever the pool is
-pub written-fits : {w : List ℕ} (input : List ℕ) {out : List ℕ} {r : Ran} {w′ out′ : List ℕ} → 9 * length input + 4 ≤ length out
-    → Batches w input out r w′ out′ → r .written ≤ length out
-written-fits {w} input {out} wide P =
-    decided w (λ n. rw (P .misfit n .ran) (omega arith)) (λ z u. rw (P .unsound z u .ran) (omega arith))
+-- ---- however long the output is
+
+-- each command has room for its record
+singly-fits : {input : List ℕ} {size : ℕ} {s e : Stage} {cs : List Command} → Singly input size s cs e → length (s .bytes) ≤ size
+    → length (e .bytes) ≤ size
+singly-fits (none s) l = l
+singly-fits {input} {size} (next s c n a v cs e t C S) l =
+    let room = size - length (s .bytes) in
+    let f = subst (Runnable input (s .at) room) t (runnable input (s .at) room) in
+    let r = recordBytes (replyTo c a) in
+    singly-fits S (omega (arith, length-append (s .bytes) r, record-length (replyTo c a), f .2))
+
+-- what a batch wrote lies in the output
+pub written-fits : {w : List ℕ} (input : List ℕ) {out : List ℕ} {r : Ran} {w′ out′ : List ℕ} → Batches w input out r w′ out′
+    → r .written ≤ length out
+written-fits {w} input B =
+    decided w (λ n. rw (B .misfit n .ran) (omega arith)) (λ z u. rw (B .unsound z u .ran) (omega arith))
     (λ b H.
-    let N = never-7 input (length out) wide b in
-    rw (P .holds b H .ran) (omega (arith, N .1 .0, N .1 .1)))
+    let O = one-by-one B (b, H) in
+    rw (O .written) (singly-fits (O .called) (omega arith)))

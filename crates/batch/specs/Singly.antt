@@ -9,11 +9,9 @@ use Rattle.model.specs.Calls.{refused, lenCall, getCall, insertCall, pushCall, 
 use Rattle.admission.specs.Promise.{Edits, Tells}
 use Rattle.records.specs.declared.Command.{Command}
 use Rattle.records.specs.declared.Command.the-variants.{Insert, Remove, Push, Get, Replace, Len}
-use Rattle.records.specs.declared.Next.the-variants.{Whole}
-use Rattle.records.specs.Commands.{nextAt}
 use Rattle.records.specs.Answers.{recordBytes}
 use Rattle.commands.specs.declared.Ran.{Ran}
-use Rattle.commands.specs.declared.Turn.the-variants.{Stop}
+use Rattle.commands.specs.declared.Turn.the-variants.{Stop, Run}
 use Rattle.commands.specs.Steps.{turnAt}
 use Rattle.commands.specs.OnBag.{replyTo}
 
@@ -26,24 +24,25 @@ Called (Get i) w a w′ = Tells refused (getCall i) w a × (w′ ≡ w)
 Called (Replace i x) w a w′ = Edits (replaceCall i x) w a w′
 Called Len w a w′ = Tells refused lenCall w a × (w′ ≡ w)
 
--- commands that are called one after the other, from pool w to pool w′, and the bytes of their records
-pub data Singly : List Command → List ℕ → List ℕ → List ℕ → Type 0 where
-  none : (w : List ℕ) → Singly [] w [] w
-  next : (c : Command) (cs : List Command) (w v w′ : List ℕ) (a : Answer) (bytes : List ℕ) → Called c w a v → Singly cs v bytes w′
-      → Singly (c ∷ cs) w (recordBytes (replyTo c a) ++ bytes) w′
+-- where the calls have come to: the place in the input, the bytes written, the pool
+pub record Stage : Type 0 where
+  pub at : ℕ
+  pub bytes : List ℕ
+  pub pool : List ℕ
 
--- whole commands that stand one behind the other in the input, from a place to another
-pub data Stand (input : List ℕ) : ℕ → List Command → ℕ → Type 0 where
-  none : (at : ℕ) → Stand input at [] at
-  next : (at n end : ℕ) (c : Command) (cs : List Command) → nextAt input at ≡ Whole c n → Stand input (at + n) cs end
-      → Stand input at (c ∷ cs) end
+-- commands called one after the other, each where it is its turn, from a stage to another
+pub data Singly (input : List ℕ) (size : ℕ) : Stage → List Command → Stage → Type 0 where
+  none : (s : Stage) → Singly input size s [] s
+  next : (s : Stage) (c : Command) (n : ℕ) (a : Answer) (v : List ℕ) (cs : List Command) (e : Stage)
+      → turnAt input (s .at) (size - length (s .bytes)) ≡ Run c n → Called c (s .pool) a v
+      → Singly input size (record { at = s .at + n; bytes = s .bytes ++ recordBytes (replyTo c a); pool = v }) cs e
+      → Singly input size s (c ∷ cs) e
 
 -- what a batch did, told without the batch: the commands before the place where it stopped, and nothing of what stands there
 pub record OneByOne (w input out : List ℕ) (r : Ran) (w′ out′ : List ℕ) : Type 0 where
   pub commands : List Command
   pub bytes : List ℕ
-  pub stand : Stand input 0 commands (r .read)
-  pub called : Singly commands w bytes w′
+  pub called : Singly input (length out) (record { at = 0; bytes = []; pool = w }) commands (record { at = r .read; bytes = bytes; pool = w′ })
   pub counted : r .commands ≡ length commands
   pub written : r .written ≡ length bytes
   pub output : out′ ≡ sets out 0 bytes

@@ -1,12 +1,14 @@
 -- The laws of a batch's turns: which one comes, and what it means for the rest.
 use mathlib.Core.Path.{_≡_, refl, sym, ap, subst, _∙_}
-use mathlib.Core.List.{List}
+use mathlib.Core.List.{List, [], _∷_}
+use mathlib.Core.Logic.{inl, inr}
 use mathlib.Core.Bool.{Bool, true, false, cond}
 use Prim.Native.Nat.{ℕ, zero, suc, _+_, _-_, _≤_, _<_}
 use native.Mathlib.Omega.{arith}
 use borrow.Author.Tests.{ltb-true, ltb-false, lt-ltb, le-ltb}
 use lib.Dec.{ltb}
 use lib.ListN.{length}
+use Rattle.lists.proofs.OneOf.{OneOf}
 use Rattle.records.specs.declared.Command.{Command}
 use Rattle.records.specs.declared.Next.{Next}
 use Rattle.records.specs.declared.Next.the-variants.{End, UnknownKind, CutShort, Whole}
@@ -68,6 +70,25 @@ module _ (s : List ℕ) (at room : ℕ) where
       go UnknownKind f = λ e. absurd (omega arith)
       go CutShort f = λ e. absurd (omega arith)
       go (Whole c n) f = fits c n f (ltb room longestRecord) refl
+
+  -- it stops with one of four numbers
+  abbrev Numbered : Turn → Type 0
+  Numbered (Stop k) = OneOf (0 ∷ 5 ∷ 6 ∷ 7 ∷ []) k
+  Numbered (Run c n) = Unit {0}
+
+  pub stop-numbers : {k : ℕ} → turnAt s at room ≡ Stop k → OneOf (0 ∷ 5 ∷ 6 ∷ 7 ∷ []) k
+  unfolding turnAt
+  stop-numbers e = subst Numbered e (go (nextAt s at))
+    where
+      fits : (c : Command) (n : ℕ) (b : Bool) → Numbered (cond b (Stop 7) (Run c n))
+      fits c n true = inr (inr (inr (inl refl)))
+      fits c n false = tt
+
+      go : (x : Next) → Numbered (turnOf x room)
+      go End = inl refl
+      go UnknownKind = inr (inl refl)
+      go CutShort = inr (inr (inl refl))
+      go (Whole c n) = fits c n (ltb room longestRecord)
 
 -- ---- the rest of a batch
 

@@ -12,9 +12,8 @@ use Rattle.replay.proofs.answer.Tie as tie
 returns : tie.Need-returns
 returns c =
     let b = c .before .before .before .before in
-    let p = b .before .before .before .before .before .before .before .before .before .before .pre in
     let fits : b .batch .result .written ≤ length (b .batch .last .1 .1 .0) =
-    omega (arith, written-fits _ p (b .batch .ensures), b .batch .kept .1 .1 .0) in
+    omega (arith, written-fits _ (b .batch .ensures), b .batch .kept .1 .1 .0) in
     (fits, sym (length-take-le _ _ fits))
 
 pub answer-spec : {M : Type 1} → statement M
