@@ -4,7 +4,6 @@ use mathlib.Core.List.{List, [], _∷_}
 use mathlib.Core.Logic.{inl, inr}
 use mathlib.Core.Bool.{Bool, true, false, cond}
 use Prim.Native.Nat.{ℕ, _≤_}
-use native.Mathlib.Decide.{decLt}
 use native.Mathlib.Omega.{arith}
 use borrow.Author.Tests.{eqb-false}
 use lib.Dec.{eqb}
@@ -14,11 +13,8 @@ use Rattle.lists.proofs.OneOf.{OneOf}
 use Rattle.words.proofs.Laws.{sets-outside}
 use Rattle.model.specs.declared.Answer.{Answer}
 use Rattle.model.specs.Tree.{Bag}
-use Rattle.model.specs.Insert.{needed}
-use Rattle.model.specs.Calls.{lengthOf, pushCall, lenCall}
-use Rattle.model.proofs.Calls.{insert-beyond, insert-full, insert-done, replace-beyond, replace-done}
-use Rattle.model.proofs.Calls.{remove-beyond, remove-done, get-beyond, get-done}
-use Rattle.pool.specs.Sound.{Sized, Sound}
+use Rattle.model.proofs.Calls.{insert-numbers, push-numbers, replace-numbers, remove-numbers, get-numbers, len-numbers}
+use Rattle.pool.specs.Sound.{Holds, Sized, Sound}
 use Rattle.admission.proofs.One.{decided}
 use Rattle.records.specs.declared.Command.{Command}
 use Rattle.records.specs.declared.Command.the-variants.{Insert, Remove, Push, Get, Replace, Len}
@@ -71,46 +67,17 @@ module _ {w : List ℕ} (input : List ℕ) {out : List ℕ} {r : Ran} {w′ out�
 
 -- ---- the numbers of its answers, on a sound pool
 
--- those that refuse a command
-abbrev pub refusalsOf : Command → List ℕ
-refusalsOf (Insert i x) = 2 ∷ 3 ∷ []
-refusalsOf (Remove i) = 2 ∷ []
-refusalsOf (Push x) = 3 ∷ []
-refusalsOf (Get i) = 2 ∷ []
-refusalsOf (Replace i x) = 2 ∷ []
-refusalsOf Len = []
+not-three : {n : ℕ} → OneOf (2 ∷ 0 ∷ []) n → OneOf (2 ∷ 3 ∷ 0 ∷ []) n
+not-three (inl e) = inl e
+not-three (inr o) = inr (inr o)
 
-perform-numbers : (c : Command) (b : Bag) → OneOf (0 ∷ refusalsOf c) (perform c b .answer .number)
-unfolding pushCall lenCall
-perform-numbers (Insert i x) b =
-    elim (decLt (lengthOf b) i) [
-      | yes l ↦ rw (insert-beyond b i x l) (inr (inl refl))
-      | no l ↦ elim (decLt (length (b .free)) (needed (b .root) i)) [
-        | yes n ↦ rw (insert-full b i x (omega arith) n) (inr (inr (inl refl)))
-        | no n ↦ rw (insert-done b i x (omega arith) (omega arith)) (inl refl)
-      ]
-    ]
-perform-numbers (Remove i) b =
-    elim (decLt i (lengthOf b)) [
-      | yes l ↦ rw (remove-done b i l) (inl refl)
-      | no l ↦ rw (remove-beyond b i (omega arith)) (inr (inl refl))
-    ]
-perform-numbers (Push x) b =
-    elim (decLt (length (b .free)) (needed (b .root) (lengthOf b))) [
-      | yes n ↦ rw (insert-full b (lengthOf b) x (omega arith) n) (inr (inl refl))
-      | no n ↦ rw (insert-done b (lengthOf b) x (omega arith) (omega arith)) (inl refl)
-    ]
-perform-numbers (Get i) b =
-    elim (decLt i (lengthOf b)) [
-      | yes l ↦ rw (get-done b i l) (inl refl)
-      | no l ↦ rw (get-beyond b i (omega arith)) (inr (inl refl))
-    ]
-perform-numbers (Replace i x) b =
-    elim (decLt i (lengthOf b)) [
-      | yes l ↦ rw (replace-done b i x l) (inl refl)
-      | no l ↦ rw (replace-beyond b i x (omega arith)) (inr (inl refl))
-    ]
-perform-numbers Len b = inl refl
+perform-numbers : (c : Command) (b : Bag) → OneOf (2 ∷ 3 ∷ 0 ∷ []) (perform c b .answer .number)
+perform-numbers (Insert i x) b = insert-numbers i x b
+perform-numbers (Remove i) b = not-three (remove-numbers i b)
+perform-numbers (Push x) b = inr (push-numbers x b)
+perform-numbers (Get i) b = not-three (get-numbers i b)
+perform-numbers (Replace i x) b = not-three (replace-numbers i x b)
+perform-numbers Len b = inr (inr (len-numbers b))
 
 given-accepts : (c : Command) (a : Answer) (n : ℕ) → given c a ≡ Refusal n → _≡_ {A = ℕ} 0 1
 given-accepts (Insert i x) a n e = cc
@@ -120,29 +87,21 @@ given-accepts (Get i) a n e = cc
 given-accepts (Replace i x) a n e = cc
 given-accepts Len a n e = cc
 
-two-or-three : (c : Command) (n : ℕ) → OneOf (refusalsOf c) n → OneOf (2 ∷ 3 ∷ []) n
-two-or-three (Insert i x) n o = o
-two-or-three (Remove i) n (inl e) = inl e
-two-or-three (Push x) n (inl e) = inr (inl e)
-two-or-three (Get i) n (inl e) = inl e
-two-or-three (Replace i x) n (inl e) = inl e
+-- record 84 carries 2 or 3
+pub refusal-numbers : (c : Command) (w : List ℕ) (a : Answer) (v : List ℕ) → Called c w a v → Sound w → (n : ℕ) → replyTo c a ≡ Refusal n
+    → OneOf (2 ∷ 3 ∷ []) n
+unfolding replyTo
+refusal-numbers c w a v C (b, H) n e = go (eqb (a .number) 0) refl e (rw (same .0) (perform-numbers c b))
+  where
+    left : (u : List ℕ) × Holds u (perform c b .bag)
+    left = left-by c H
 
-module _ (c : Command) (w : List ℕ) (a : Answer) (v : List ℕ) (C : Called c w a v) (S : Sound w) where
-  pub answer-numbers : OneOf (0 ∷ refusalsOf c) (a .number)
-  answer-numbers =
-      let left = left-by c (S .1) in
-      let same = called-one c w a _ v (left .0) C (called-held c (S .1) (left .1)) in
-      rw (same .0) (perform-numbers c (S .0))
+    same : (a ≡ perform c b .answer) × (v ≡ left .0)
+    same = called-one c w a _ v (left .0) C (called-held c H (left .1))
 
-  -- record 84 carries 2 or 3
-  pub refusal-numbers : (n : ℕ) → replyTo c a ≡ Refusal n → OneOf (2 ∷ 3 ∷ []) n
-  unfolding replyTo
-  refusal-numbers n e = go (eqb (a .number) 0) refl e answer-numbers
-    where
-      go : (b : Bool) → eqb (a .number) 0 ≡ b → cond b (given c a) (Refusal (a .number)) ≡ Refusal n → OneOf (0 ∷ refusalsOf c) (a .number)
-          → OneOf (2 ∷ 3 ∷ []) n
-      go true q e o = absurd (omega (arith, given-accepts c a n e))
-      go false q e (inl z) = absurd (eqb-false (a .number) 0 q z)
-      go false q e (inr o) =
-          let same : a .number ≡ n = cc in
-          rw same at (two-or-three c (a .number) o)
+    go : (t : Bool) → eqb (a .number) 0 ≡ t → cond t (given c a) (Refusal (a .number)) ≡ Refusal n → OneOf (2 ∷ 3 ∷ 0 ∷ []) (a .number)
+        → OneOf (2 ∷ 3 ∷ []) n
+    go true q e o = absurd (omega (arith, given-accepts c a n e))
+    go false q e (inl z) = inl (cc)
+    go false q e (inr (inl z)) = inr (inl (cc))
+    go false q e (inr (inr (inl z))) = absurd (eqb-false (a .number) 0 q z)
