@@ -2,7 +2,7 @@
 use mathlib.Core.Path.{_≡_, refl, ap, subst, _∙_}
 use mathlib.Core.Bool.{Bool, true, false}
 use mathlib.Core.List.{List}
-use Prim.Native.Nat.{ℕ, _*_, _-_, _^_, _≤_, _<_}
+use Prim.Native.Nat.{ℕ, _*_, _-_, _≤_, _<_}
 use native.Mathlib.Omega.{arith}
 use lib.Dec.{leb, ltb}
 use lib.ListN.{length, getD, set}
@@ -14,7 +14,7 @@ use Rattle.model.specs.Remove.{bagRemove}
 use Rattle.model.specs.Calls.{refused, gives, lengthOf, Outcome, outcome, refuse, insertCall, replaceCall, removeCall, getCall}
 use Rattle.model.proofs.Calls.{insert-beyond, insert-full, insert-done, replace-done, remove-done, get-done}
 use Rattle.model.proofs.Bags.{bag-get, bag-replace, bag-insert, bag-remove}
-use Rattle.model.proofs.Bounds.{enough, compared-most}
+use Rattle.model.proofs.Bounds.{enough, Highest, compared-most}
 use Rattle.pool.specs.Sound.{Holds, Sound}
 use Rattle.pool.proofs.Whole.{nodes-of}
 use Rattle.pool.proofs.Read.{one-pool}
@@ -114,5 +114,5 @@ module _ {w : List ℕ} {r : Answer} {b : Bag} (H : Holds w b) (i : ℕ) (P : Te
       (ap (λ (a : Answer). a .number) found, ap (λ (a : Answer). a .value) found ∙ bag-get b i (H .lawful .fit) l)
 
   -- demand 3's bound on comparisons
-  pub get-compares : (m : ℕ) → 1 ≤ m → lengthOf b < 2 * 16 ^ m - 1 → r .compared ≤ 32 * (m - 1)
-  get-compares m one few = rw (ap (λ (a : Answer). a .compared) found) (compared-most b i (H .lawful .fit) l m one few)
+  pub get-compares : {h : ℕ} → Highest (lengthOf b) h → r .compared ≤ 32 * (h - 1)
+  get-compares M = rw (ap (λ (a : Answer). a .compared) found) (compared-most b i (H .lawful .fit) l M)

@@ -3,3 +3,4 @@ pub mod One
 pub mod Kept
 pub mod Admitting
 pub mod Demands
+pub mod Lengths
