@@ -51,7 +51,7 @@ module _ {w : List ℕ} {n : ℕ} (R : Refusal w n) where
   pub walks-refused : {ask : Bag → Walked} {p : ℕ} {r : Walked} → Tells (stays p) ask w r → r ≡ record { number = n; element = 0; position = p }
   walks-refused {p = p} {r} P = promise-refused (λ m. r ≡ record { number = m; element = 0; position = p }) P
 
-  -- equality: w is the first pool, or the second of which the first is sound
+  -- equality: w is the first pool; or it is the second, and the first is sound
   pub compares-refused : {v : List ℕ} {r : Answer} → Compares w v r → r ≡ record { number = n; value = 0; compared = 0 }
   compares-refused {r = r} P = promise-refused (λ m. r ≡ record { number = m; value = 0; compared = 0 }) P
 
