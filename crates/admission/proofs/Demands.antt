@@ -1,13 +1,15 @@
 -- The three demands in their own words, over the door's promise, for every call. Answers stand in figures: `answer` is number, value,
 -- comparisons, and `walked` is number, element, position. A sound pool holds a bag; its list is `listOf (b .root)`, of n samples.
 use mathlib.Core.Path.{_≡_, refl, sym, ap, subst, _∙_}
+use mathlib.Core.Bool.{Bool, true, false, cond, true≢false}
 use mathlib.Core.List.{List, [], _∷_, _++_}
 use mathlib.Core.Logic.{_⊎_, inl, inr}
-use Prim.Native.Nat.{ℕ, _+_, _*_, _-_, _^_, _≤_, _<_}
+use Prim.Native.Nat.{ℕ, _+_, _*_, _-_, _≤_, _<_}
 use native.Mathlib.Nat.{add-zero}
+use native.Mathlib.Decide.{decLt}
 use native.Mathlib.Omega.{arith}
-use lib.ListN.{length, getD, set}
-use Rattle.lists.specs.Lists.{insertAt, removeAt, count, from}
+use lib.ListN.{length, take, drop, getD, set}
+use Rattle.lists.specs.Lists.{insertAt, removeAt}
 use Rattle.lists.proofs.Edits.{insertAt-end}
 use Rattle.lists.proofs.Counts.{count-in, count-out}
 use Rattle.lists.proofs.OneOf.{OneOf}
@@ -16,22 +18,73 @@ use Rattle.model.specs.declared.Walked.{Walked}
 use Rattle.model.specs.Tree.{Bag, empty, listOf, met, bagGet, bagReplace}
 use Rattle.model.specs.Insert.{needed, bagInsert}
 use Rattle.model.specs.Remove.{bagRemove}
-use Rattle.model.specs.Calls.{answer, walked, refused, lengthOf, Outcome, outcome, stays, insertCall, pushCall, replaceCall, removeCall}
-use Rattle.model.specs.Calls.{checkCall, lenCall, getCall, skipCall, equalCall}
+use Rattle.model.specs.Calls.{answer, walked, refused, stays, lengthOf, Outcome, insertCall, pushCall, replaceCall, removeCall}
+use Rattle.model.specs.Calls.{checkCall, lenCall, getCall, skipCall}
 use Rattle.model.proofs.Calls.{Keeps, insert-beyond, insert-full, insert-done, push-at-end, replace-beyond, replace-done}
 use Rattle.model.proofs.Calls.{remove-beyond, remove-done, check-done, len-done, get-beyond, get-done, skip-beyond, skip-done}
 use Rattle.model.proofs.Calls.{equal-same, equal-differ, Zeros, equal-zeros, skip-zeros, equal-numbers}
 use Rattle.model.proofs.Bags.{bag-get, bag-replace, bag-insert, bag-remove}
-use Rattle.model.proofs.Bounds.{enough, compared-most}
-use Rattle.pool.specs.Sound.{Holds, Sound, Sized, nodesIn}
+use Rattle.model.proofs.Bounds.{enough, Highest, compared-most}
+use Rattle.model.proofs.Spans.{ShownRoot, root-shown-some, root-shown-list}
+use Rattle.words.specs.Words.{run}
+use Rattle.words.proofs.Laws.{run-length}
+use Rattle.pool.specs.Sound.{Holds, Sound, Sized, nodesIn, fits, formatAnswer}
 use Rattle.pool.proofs.Whole.{nodes-of, holds-parts, holds-empty}
 use Rattle.pool.proofs.Sized.{fits-true, nodes-in}
 use Rattle.pool.proofs.Read.{one-pool}
 use Rattle.pool.proofs.Decide.{sized?}
-use Rattle.admission.specs.Promise.{Promise, Edits, Tells, Compares, Formats}
-use Rattle.admission.proofs.One.{decided}
+use Rattle.calls.proofs.Bags.{holds-stands}
+use Rattle.views.specs.declared.Span.{Span}
+use Rattle.views.specs.Part.{nowhere, partCall}
+use Rattle.views.proofs.Views.{part-beyond, part-fits, part-shows, part-some}
+use Rattle.admission.specs.Promise.{Promise, Edits, Tells, Compares, Formats, Windows}
+use Rattle.admission.proofs.One.{decided, tells-some}
 
--- ---- demand 1: a refused call changes no word, and gives zeros
+-- ---- demand 1: a length that does not fit is answered 4, a pool that is not sound 1, and nothing changes
+
+-- the words w are refused with n
+pub data Refusal (w : List ℕ) : ℕ → Type 0 where
+  misfit : (Sized w → ⊥) → Refusal w 4
+  unsound : Sized w → (Sound w → ⊥) → Refusal w 1
+
+module _ {w : List ℕ} {n : ℕ} (R : Refusal w n) where
+  promise-refused : (P : ℕ → Type 0) {Held : Bag → Type 0} → Promise w (P 4) (P 1) Held → P n
+  promise-refused P Q = go R
+    where
+      go : {m : ℕ} → Refusal w m → P m
+      go (misfit s) = Q .misfit s
+      go (unsound s u) = Q .unsound s u
+
+  pub edits-refused : {call : Bag → Outcome} {w′ : List ℕ} {r : Answer} → Edits call w r w′ → (r ≡ answer n 0 0) × (w′ ≡ w)
+  edits-refused {w′ = w′} {r} P = promise-refused (λ m. (r ≡ answer m 0 0) × (w′ ≡ w)) P
+
+  pub tells-refused : {ask : Bag → Answer} {r : Answer} → Tells refused ask w r → r ≡ answer n 0 0
+  tells-refused {r = r} P = promise-refused (λ m. r ≡ answer m 0 0) P
+
+  -- a walk keeps its position
+  pub walks-refused : {ask : Bag → Walked} {p : ℕ} {r : Walked} → Tells (stays p) ask w r → r ≡ walked n 0 p
+  walks-refused {p = p} {r} P = promise-refused (λ m. r ≡ walked m 0 p) P
+
+  -- equality: w is the first pool; or it is the second, and the first is sound
+  pub compares-refused : {v : List ℕ} {r : Answer} → Compares w v r → r ≡ answer n 0 0
+  compares-refused {r = r} P = promise-refused (λ m. r ≡ answer m 0 0) P
+
+  pub compares-second : {v : List ℕ} {r : Answer} → Sound v → Compares v w r → r ≡ answer n 0 0
+  compares-second (b, H) P = tells-refused (P .holds b H)
+
+-- formatting knows the length only
+pub format-answers : {w w′ : List ℕ} {r : Answer} → Formats w r w′ → r ≡ formatAnswer (length w)
+unfolding formatAnswer
+format-answers {w} {r = r} P = go (fits (length w)) refl
+  where
+    go : (b : Bool) → fits (length w) ≡ b → r ≡ cond b (answer 0 0 0) (answer 4 0 0)
+    go true e = P .fits e .0
+    go false e = P .misfit (λ s. true≢false (sym s ∙ e)) .0
+
+pub format-refused : {w w′ : List ℕ} {r : Answer} → Formats w r w′ → (Sized w → ⊥) → (r ≡ answer 4 0 0) × (w′ ≡ w)
+format-refused P n = P .misfit n
+
+-- ---- demand 1: whatever refuses it, a refused call changes no word, and gives zeros
 
 pub refused-unchanged : {call : Bag → Outcome} → Keeps call → {w w′ : List ℕ} {r : Answer} → Edits call w r w′ → (r .number ≡ 0 → ⊥)
     → (r ≡ answer (r .number) 0 0) × (w′ ≡ w)
@@ -182,9 +235,9 @@ module _ {w : List ℕ} {r : Answer} {b : Bag} (H : Holds w b) where
     pub get-as-vec : i < lengthOf b → r ≡ answer 0 (getD (listOf (b .root)) i 0) (bagGet b i .compared)
     get-as-vec l = P .holds b H ∙ get-done b i l ∙ ap (λ (v : ℕ). answer 0 v (bagGet b i .compared)) (bag-get b i (H .lawful .fit) l)
 
-    -- demand 3's bound on comparisons
-    pub get-compares : i < lengthOf b → (m : ℕ) → 1 ≤ m → lengthOf b < 2 * 16 ^ m - 1 → r .compared ≤ 32 * (m - 1)
-    get-compares l m one few = rw (get-as-vec l) (compared-most b i (H .lawful .fit) l m one few)
+    -- demand 3's bound on comparisons, for its h
+    pub get-compares : i < lengthOf b → {h : ℕ} → Highest (lengthOf b) h → r .compared ≤ 32 * (h - 1)
+    get-compares l M = rw (get-as-vec l) (compared-most b i (H .lawful .fit) l M)
 
 -- a walk; a step is a skip of no elements
 module _ {w : List ℕ} {r : Walked} {b : Bag} (H : Holds w b) (p : ℕ) where
@@ -216,6 +269,65 @@ unfolding empty listOf
 format-as-vec {w} {w′} P s =
     let p : ℕ = nodesIn (length w) in
     (P .fits s .0, (empty p, subst (λ (v : List ℕ). Holds v (empty p)) (sym (P .fits s .1)) (holds-empty p (fits-true (length w) s .few)), refl))
+
+-- ---- demand 2: the window shows the list's elements from i on, and is empty exactly if there is no element i
+
+-- why there is no element i: the length does not fit, the pool is not sound, or its list is not so long
+pub data NoElement (w : List ℕ) (i : ℕ) : Type 0 where
+  misfit : (Sized w → ⊥) → NoElement w i
+  unsound : (Sound w → ⊥) → NoElement w i
+  short : (b : Bag) → Holds w b → lengthOf b ≤ i → NoElement w i
+
+no-element : (w : List ℕ) (i : ℕ) → ((b : Bag) → Holds w b → i < lengthOf b → ⊥) → NoElement w i
+no-element w i f =
+    decided w misfit (λ z u. unsound u) (λ b H. elim (decLt i (lengthOf b)) [ yes l ↦ absurd (f b H l) | no n ↦ short b H (omega arith) ])
+
+-- the span that `part` tells
+
+module _ {i : ℕ} {w : List ℕ} {s : Span} (T : Tells (λ _. nowhere) (partCall i) w s) where
+  module _ {b : Bag} (H : Holds w b) (l : i < lengthOf b) where
+    -- in a leaf it ends with the leaf's last element, and a separator stands alone
+    pub span-shows : ShownRoot (b .root) i (run w (s .start) (s .count))
+    span-shows = rw (T .holds b H) (part-shows (holds-stands H) i l)
+
+    -- the list's elements from i on
+    pub span-list : run w (s .start) (s .count) ≡ take (s .count) (drop i (listOf (b .root)))
+    span-list =
+        let fits : s .start + s .count ≤ length w = rw (T .holds b H) (part-fits (holds-stands H) i) in
+        rw (run-length w (s .start) (s .count) fits) at
+        (root-shown-list (b .root) i (run w (s .start) (s .count)) (H .lawful .fit) span-shows)
+
+  -- empty exactly if there is no element i
+  pub span-empty : s .count ≡ 0 → NoElement w i
+  span-empty z = no-element w i (λ b H l. omega (arith, part-some (holds-stands H) i l, ap (λ (t : Span). t .count) (T .holds b H)))
+
+  pub span-refused : NoElement w i → s ≡ record { start = 0; count = 0 }
+  span-refused (misfit n) = T .misfit n
+  span-refused (unsound u) = decided w (T .misfit) (T .unsound) (λ b H. absurd (u (b, H)))
+  span-refused (short b H l) = T .holds b H ∙ part-beyond b i l
+
+-- the words that `window` lends
+
+module _ (i : ℕ) (w : List ℕ) (ptr : ℕ × ℕ) {r : List ℕ} {at : ℕ × ℕ} (W : Windows i w ptr r at) where
+  told : (s : Span) × Tells (λ _. nowhere) (partCall i) w s
+  told = tells-some (λ _. nowhere) (partCall i) w
+
+  lent : r ≡ run w (told .0 .start) (told .0 .count)
+  lent = W (told .0) (told .1) .0
+
+  module _ {b : Bag} (H : Holds w b) (l : i < lengthOf b) where
+    pub window-shows : ShownRoot (b .root) i r
+    window-shows = rw lent (span-shows (told .1) H l)
+
+    pub window-list : r ≡ take (length r) (drop i (listOf (b .root)))
+    window-list = root-shown-list (b .root) i r (H .lawful .fit) window-shows
+
+  pub window-empty : r ≡ [] → NoElement w i
+  window-empty e = no-element w i (λ b H l. omega (arith, root-shown-some (b .root) i r (window-shows H l), ap length e))
+
+  pub window-refused : NoElement w i → r ≡ []
+  unfolding run
+  window-refused N = lent ∙ ap (λ (s : Span). run w (s .start) (s .count)) (span-refused (told .1) N)
 
 -- ---- demand 3: every accepted call leaves a sound pool, with every node in the tree or free, once
 

@@ -3,4 +3,3 @@ pub mod One
 pub mod Kept
 pub mod Admitting
 pub mod Demands
-pub mod Window

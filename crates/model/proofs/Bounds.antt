@@ -3,7 +3,7 @@ use mathlib.Core.Path.{_≡_, refl}
 use mathlib.Core.List.{List}
 use mathlib.Core.Bool.{Bool, true, false, cond}
 use Prim.Native.Nat.{ℕ, zero, suc, _+_, _*_, _-_, _^_, _≤_, _<_}
-use native.Mathlib.Nat.{mul-le-mul-right, pow-succ', pow-le-pow-right}
+use native.Mathlib.Nat.{mul-le-mul-right, pow-succ'}
 use native.Mathlib.Decide.{decLt}
 use native.Mathlib.Omega.{arith}
 use lib.ListN.{length, length-append}
@@ -121,33 +121,58 @@ tall (suc h) t F n l =
 pub height : (h : ℕ) (t : Tree h) → FitTree h t → 2 * 16 ^ h - 1 ≤ size h t
 height h t F = omega (arith, tall h t (F .fit) 1 (F .some))
 
+grows : (n : ℕ) → suc n ≤ 16 ^ n
+grows zero = omega arith
+grows (suc n) = rw (pow-succ' 16 n) (omega (arith, grows n))
+
 -- so it has fewer levels than elements
 pub levels-few : (h : ℕ) (t : Tree h) → FitTree h t → h ≤ size h t
 levels-few h t F = omega (arith, height h t F, grows h)
-  where
-    grows : (n : ℕ) → suc n ≤ 16 ^ n
-    grows zero = omega arith
-    grows (suc n) = rw (pow-succ' 16 n) (omega (arith, grows n))
 
 pub root-levels : (r : Root) → FitRoot r → levelsOf r ≤ length (listOf r)
 unfolding listOf levelsOf
 root-levels bare F = omega arith
 root-levels (rooted h t) F = omega (arith, levels-few h t F, flat-length h t (F .fit))
 
--- demand 3: a lookup among fewer than 2 · 16 ^ m - 1 samples compares at most 32 children in each of m - 1 levels
-pub compared-most : (b : Bag) (i : ℕ) → FitRoot (b .root) → i < length (listOf (b .root)) → (m : ℕ) → 1 ≤ m
-    → length (listOf (b .root)) < 2 * 16 ^ m - 1 → bagGet b i .compared ≤ 32 * (m - 1)
-unfolding bagGet listOf
-compared-most b i F l m one few = go (b .root) F l few
+-- ---- demand 3's h, the height that n samples can have at most: there is one for each n from 1 on, and a lookup is bounded by it
+
+pub record Highest (n h : ℕ) : Type 0 where
+  pub reached : 2 * 16 ^ (h - 1) - 1 ≤ n
+  pub largest : (k : ℕ) → 2 * 16 ^ (k - 1) - 1 ≤ n → k ≤ h
+
+pub highest-one : {n g h : ℕ} → Highest n g → Highest n h → g ≡ h
+highest-one {g = g} {h = h} G H = omega (arith, G .largest h (H .reached), H .largest g (G .reached))
+
+pub highest-some : (n : ℕ) → 1 ≤ n → (h : ℕ) × Highest n h
+highest-some n one = down n (λ k p. omega (arith, grows (k - 1)))
   where
-    go : (r : Root) → FitRoot r → i < length (listOf r) → length (listOf r) < 2 * 16 ^ m - 1
-        → bagGet (record { root = r; free = b .free }) i .compared ≤ 32 * (m - 1)
-    go bare F l few = absurd (omega arith)
-    go (rooted h t) F l few =
-        let e = flat-length h t (F .fit) in
-        elim (decLt h m) [
-          | yes p ↦ omega (arith, get-law h t (F .fit) i (omega arith) .compared)
-          | no p ↦
-              (let q : 16 ^ m ≤ 16 ^ h = pow-le-pow-right (omega arith) (omega arith) in
-              absurd (omega (arith, height h t F)))
+    -- the largest is sought from above
+    down : (m : ℕ) → ((k : ℕ) → 2 * 16 ^ (k - 1) - 1 ≤ n → k ≤ m) → (h : ℕ) × Highest n h
+    down zero above = (0, record { reached = omega arith; largest = above })
+    down (suc m) above =
+        elim (decLt n (2 * 16 ^ (suc m - 1) - 1)) [
+          | yes p ↦ down m (λ k q. below k q p)
+          | no p ↦ (suc m, record { reached = omega arith; largest = above })
         ]
+      where
+        below : (k : ℕ) → 2 * 16 ^ (k - 1) - 1 ≤ n → n < 2 * 16 ^ (suc m - 1) - 1 → k ≤ m
+        below k q p =
+            elim (decLt m k) [
+              | yes l ↦
+                  (let e : k ≡ suc m = omega (arith, above k q) in
+                  absurd (omega (arith, rw e at q)))
+              | no l ↦ omega arith
+            ]
+
+pub compared-most : (b : Bag) (i : ℕ) → FitRoot (b .root) → i < length (listOf (b .root)) → {h : ℕ}
+    → Highest (length (listOf (b .root))) h → bagGet b i .compared ≤ 32 * (h - 1)
+unfolding bagGet listOf
+compared-most b i F l {h} H = go (b .root) F l H
+  where
+    go : (r : Root) → FitRoot r → i < length (listOf r) → Highest (length (listOf r)) h
+        → bagGet (record { root = r; free = b .free }) i .compared ≤ 32 * (h - 1)
+    go bare F l H = absurd (omega arith)
+    go (rooted m t) F l H =
+        let e = flat-length m t (F .fit) in
+        let p : suc m - 1 ≡ m = omega arith in
+        omega (arith, get-law m t (F .fit) i (omega arith) .compared, H .largest (suc m) (rw p (omega (arith, height m t F))))

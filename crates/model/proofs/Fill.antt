@@ -73,6 +73,10 @@ module _ (h : ℕ) (t : Tree (suc h)) (F : Fit (suc h) t) (c : ℕ) (l : c < len
   pair-splice a e b =
       ap₂ (node (t .id)) (set-split (t .elems) c e l) (ap (λ (n : ℕ). take c (t .kids) ++ (a ∷ (b ∷ drop n (t .kids)))) (add-two c))
 
+  lent : {a b : Tree h} {e : ℕ} → Recast h (kid h t c) (getD (t .elems) c 0) (kid h t (c + 1)) [] (e ∷ []) (a ∷ (b ∷ [])) → (f : List ℕ)
+      → Rearranged (suc h) t f (withPair h t c a e b) f
+  lent {a} {b} {e} R f = rw (pair-splice a e b) (same R f)
+
   -- ---- merge and borrow; the children at hand
 
   abbrev a : Tree h
@@ -97,11 +101,11 @@ module _ (h : ℕ) (t : Tree (suc h)) (F : Fit (suc h) t) (c : ℕ) (l : c < len
 
   pub borrow-right-law : length (a .elems) ≤ 30 → 16 ≤ length (b .elems) → (f : List ℕ) → Rearranged (suc h) t f (borrowRight h t c) f
   unfolding borrowRight
-  borrow-right-law m n f = rw (pair-splice (tookBack a e b) (getD (b .elems) 0 0) (gaveFirst b)) (same (lend-left h a e b A B m n) f)
+  borrow-right-law m n f = lent (lend-left h a e b A B m n) f
 
   pub borrow-left-law : 16 ≤ length (a .elems) → length (b .elems) ≤ 30 → (f : List ℕ) → Rearranged (suc h) t f (borrowLeft h t c) f
   unfolding borrowLeft
-  borrow-left-law m n f = rw (pair-splice (gaveLast a) (last (a .elems) 0) (tookFront a e b)) (same (lend-right h a e b A B m n) f)
+  borrow-left-law m n f = lent (lend-right h a e b A B m n) f
 
   -- ---- and where index i then is
 

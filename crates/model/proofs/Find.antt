@@ -1,7 +1,7 @@
 -- Where an index lies: the one child c and index j in it with `i ≡ before c + j`, j being at most that child's size.
 use mathlib.Core.Path.{_≡_, refl, ap, _∙_}
 use mathlib.Core.List.{List, [], _∷_, _++_, map}
-use mathlib.Core.Bool.{Bool, true, false}
+use mathlib.Core.Bool.{Bool, true, false, cond}
 use Prim.Native.Nat.{ℕ, zero, suc, _+_, _-_, _≤_, _<_}
 use native.Mathlib.Nat.{suc-add}
 use native.Mathlib.Numerals.{add-one}
@@ -26,13 +26,13 @@ use Rattle.model.proofs.Splice.{left, right, left-length, flat-one}
 abbrev pub place : ℕ → ℕ → Place
 place c j = record { child = c; sub = j; compared = c + 1 }
 
-find-here : (n : ℕ) (ns : List ℕ) (i : ℕ) → i ≤ n → findIn (n ∷ ns) i ≡ place 0 i
-unfolding findIn
-find-here n ns i l = rw (le-leb i n l) refl
-
 -- the same one child further on
 abbrev later : Place → Place
 later p = record { child = suc (p .child); sub = p .sub; compared = suc (p .compared) }
+
+find-here : (n : ℕ) (ns : List ℕ) (i : ℕ) → i ≤ n → findIn (n ∷ ns) i ≡ place 0 i
+unfolding findIn
+find-here n ns i l = ap (λ (b : Bool). cond b (place 0 i) (later (findIn ns (i - (n + 1))))) (le-leb i n l)
 
 find-there : (n : ℕ) (ns : List ℕ) (i j : ℕ) → i ≡ n + 1 + j → findIn (n ∷ ns) i ≡ later (findIn ns j)
 unfolding findIn

@@ -4,7 +4,7 @@ use Prim.Native.Nat.{ℕ, _+_, _*_}
 use Rattle.lists.specs.Lists.{concat, from}
 use Rattle.model.specs.Calls.{answer, walked}
 use Rattle.pool.specs.Layout.{nodeBlock, freeBlock}
-use Rattle.rows.specs.Row.{Call, check, len, push, get, remove, insert, replace, Row, after, walks, equals, stops}
+use Rattle.rows.specs.Row.{Call, check, len, push, remove, insert, replace, Row, after, walks, equals, stops}
 use Rattle.rows.specs.Table.{pushes, L32, pool, leaf, three, words32}
 
 -- n elements in 4 nodes: the root is node 2 with x and y, the leaves are nodes 1, 3 and 4
@@ -52,6 +52,7 @@ ours =
     walks 3 L32 31 0 (walked 0 32 32) ∷
     walks 3 L32 1 31 (walked 2 0 32) ∷
     walks 3 L32 40 0 (walked 2 0 32) ∷
+    stops 7 1 (walked 1 0 7) ∷
     stops 7 4 (walked 4 0 7) ∷
     equals 1 (pushes 31) 3 (L32 ++ (remove 31 ∷ [])) (answer 0 1 0) ∷
     equals 1 (pushes 31) 3 (L32 ++ (remove 0 ∷ [])) (answer 0 0 0) ∷

@@ -1,7 +1,7 @@
 -- `open_gap` meets its contract. Invariant: the words from j to `end` stand one place higher, and no other has changed.
 -- Measure: j.
 use mathlib.Core.Path.{_≡_, refl}
-use mathlib.Core.List.{List}
+use mathlib.Core.List.{List, _∷_}
 use mathlib.Core.Logic.{inl}
 use Prim.Native.Nat.{ℕ, suc, _-_, _≤_, _<_}
 use native.Mathlib.Nat.{sub-self}
@@ -20,6 +20,12 @@ turn w₀ w k j end s l h e =
     let n : end - k ≡ suc (end - j) = omega arith in
     let below : j < suc j = omega arith in
     rw (e, sets-outside w₀ (suc j) (run w₀ j (end - j)) k 0 (inl (omega arith)), n, run-cons w₀ k (end - j) (omega arith), s, set-sets)
+
+-- the word put into its gap
+filled : (w₀ w : List ℕ) (at n x : ℕ) → w ≡ sets w₀ (suc at) (run w₀ at n) → set w at x ≡ sets w₀ at (x ∷ run w₀ at n)
+filled w₀ w at n x e =
+    let below : at < suc at = omega arith in
+    rw (e, set-sets)
 
 abbrev Inv-loop : tie.InvT-loop
 Inv-loop w₀ at end x j₀ w j = (at ≤ j) × (j ≤ end) × (length w ≡ length w₀) × (w ≡ sets w₀ (suc j) (run w₀ j (end - j)))
@@ -42,8 +48,7 @@ loop-again c = (
 returns : tie.Need-returns Inv-loop μ-loop
 returns c =
     let e : c .before .loop .j ≡ c .before .before .args .at = omega arith in
-    let below : c .before .before .args .at < suc (c .before .before .args .at) = omega arith in
-    rw (rw e at (c .before .loop .inv .3), set-sets)
+    filled _ _ _ _ _ (rw e at (c .before .loop .inv .3))
 
 pub open-gap-spec : {M : Type 1} → statement M
 open-gap-spec =
