@@ -6,14 +6,12 @@ use native.Mathlib.Decide.{decLt}
 use native.Mathlib.Omega.{arith}
 use borrow.Author.Tests.{le-leb, lt-leb}
 use lib.ListN.{length, getD}
-use lib.Seq.{ext-getD}
 use Rattle.lists.specs.Lists.{count}
 use Rattle.model.specs.declared.Found.{Found}
 use Rattle.model.specs.declared.Stretch.{Stretch}
 use Rattle.model.specs.Tree.{Tree, get, Root, bare, rooted, Bag, listOf}
 use Rattle.model.specs.Fit.{FitRoot}
-use Rattle.model.specs.Calls.{gives, lengthOf, equalCall}
-use Rattle.lists.proofs.Same.{same-self, same-other}
+use Rattle.model.specs.Calls.{lengthOf}
 use Rattle.words.specs.Words.{run}
 use Rattle.words.proofs.Laws.{run-length}
 use Rattle.model.proofs.Bags.{bag-get}
@@ -31,16 +29,6 @@ use Rattle.pool.proofs.Node.{elems-part, at-node}
 use Rattle.calls.proofs.Reading.{root-of, root-has, root-got}
 
 -- ---- equality
-
-module _ (a b : Bag) where
-  pub equal-differ : (listOf (a .root) ≡ listOf (b .root) → ⊥) → gives 0 ≡ equalCall a b
-  unfolding equalCall
-  equal-differ n = rw (same-other (listOf (a .root)) (listOf (b .root)) n)
-
-  pub equal-same : lengthOf a ≡ lengthOf b → ((i : ℕ) → i < lengthOf a → getD (listOf (a .root)) i 0 ≡ getD (listOf (b .root)) i 0)
-      → gives 1 ≡ equalCall a b
-  unfolding equalCall
-  equal-same e f = rw (ext-getD 0 (listOf (a .root)) (listOf (b .root)) e f, same-self)
 
 -- the element that a lookup finds, as the list has it
 pub root-element : {w : List ℕ} {known : Known} (s : Ready w known) (i : ℕ) → i < lengthOf (s .bag) → (f : Found)

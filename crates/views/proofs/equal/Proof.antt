@@ -6,6 +6,7 @@ use native.Mathlib.Decide.{ℕ-discrete}
 use native.Mathlib.Omega.{arith}
 use borrow.Author.Needs.{needs}
 use lib.ListN.{length, getD}
+use lib.Seq.{ext-getD}
 use Rattle.model.specs.declared.Found.{Found}
 use Rattle.model.specs.Tree.{get, listOf}
 use Rattle.model.specs.Calls.{lengthOf}
@@ -13,7 +14,8 @@ use Rattle.tree.specs.declared.Known.{Known}
 use Rattle.tree.specs.Lookup.{Has}
 use Rattle.calls.specs.Does.{Ready}
 use Rattle.calls.proofs.Reading.{root-has}
-use Rattle.views.proofs.Views.{root-element, equal-differ, equal-same}
+use Rattle.model.proofs.Calls.{equal-same, equal-differ}
+use Rattle.views.proofs.Views.{root-element}
 use Rattle.views.proofs.equal.Statement.{statement}
 use Rattle.views.proofs.equal.Tie as tie
 
@@ -33,7 +35,7 @@ returns : tie.Need-returns Inv-loop μ-loop
 returns c s t =
     let e = c .before .before .before .len .ensures s in
     let f = c .before .before .len2 .ensures t in
-    c .give .ensures ∙ equal-differ (s .bag) (t .bag) (λ q. c .before .if1 .taken (e ∙ ap length q ∙ sym f))
+    c .give .ensures ∙ sym (equal-differ (s .bag) (t .bag) (λ q. c .before .if1 .taken (e ∙ ap length q ∙ sym f)))
 
 loop-holds : tie.Need-loop-holds Inv-loop μ-loop
 loop-holds c = (
@@ -69,9 +71,10 @@ returns-2 c s t =
     let F = c .before .before .before .before .before .get .ensures in
     let G = c .before .before .before .before .get2 .ensures in
     c .give2 .ensures
-    ∙ equal-differ (s .bag) (t .bag)
+    ∙ sym
+    (equal-differ (s .bag) (t .bag)
     (λ q. c .before .if2 .taken
-    (in-left A (omega arith) _ _ F G s ∙ ap (λ (xs : List ℕ). getD xs (u .before .loop .i) 0) q ∙ sym (in-right A (omega arith) _ _ F G t)))
+    (in-left A (omega arith) _ _ F G s ∙ ap (λ (xs : List ℕ). getD xs (u .before .loop .i) 0) q ∙ sym (in-right A (omega arith) _ _ F G t))))
 
 loop-again : tie.Need-loop-again Inv-loop μ-loop
 loop-again c =
@@ -84,7 +87,10 @@ loop-again c =
 returns-3 : tie.Need-returns-3 Inv-loop μ-loop
 returns-3 c s t =
     let A = c .before .before .loop .inv .1 in
-    c .give3 .ensures ∙ equal-same (s .bag) (t .bag) (sym (A .left s) ∙ A .right t) (λ j l. A .upto s t j (omega (arith, A .left s)))
+    c .give3 .ensures
+    ∙ sym
+    (equal-same (s .bag) (t .bag)
+    (ext-getD 0 (listOf (s .bag .root)) (listOf (t .bag .root)) (sym (A .left s) ∙ A .right t) (λ j l. A .upto s t j (omega (arith, A .left s)))))
 
 pub equal-spec : {M : Type 1} → statement M
 equal-spec =
