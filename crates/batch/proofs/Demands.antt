@@ -3,7 +3,7 @@ use mathlib.Core.Path.{_≡_, refl}
 use mathlib.Core.List.{List, [], _∷_}
 use mathlib.Core.Logic.{inl, inr}
 use mathlib.Core.Bool.{Bool, true, false, cond}
-use Prim.Native.Nat.{ℕ, _≤_}
+use Prim.Native.Nat.{ℕ, _-_, _≤_}
 use native.Mathlib.Omega.{arith}
 use borrow.Author.Tests.{eqb-false}
 use lib.Dec.{eqb}
@@ -21,7 +21,7 @@ use Rattle.records.specs.declared.Command.the-variants.{Insert, Remove, Push, G
 use Rattle.records.specs.declared.Record.the-variants.{Refusal}
 use Rattle.commands.specs.declared.Ran.{Ran}
 use Rattle.commands.specs.OnBag.{perform, given, replyTo}
-use Rattle.commands.proofs.Turns.{stop-numbers}
+use Rattle.commands.proofs.Turns.{Stopped, ended, unknown, cut, full, stopped}
 use Rattle.batch.specs.Batch.{Batches}
 use Rattle.batch.specs.Singly.{Called}
 use Rattle.batch.proofs.Singly.{called-held, left-by, called-one, one-by-one}
@@ -47,18 +47,20 @@ module _ {w : List ℕ} (input : List ℕ) {out : List ℕ} {r : Ran} {w′ out�
           → (length out′ ≡ length out) × ((k : ℕ) → r .written ≤ k → getD out′ k 0 ≡ getD out k 0)
       kept bytes e f = rw e (length-sets out 0 bytes, λ k l. sets-outside out 0 bytes k 0 (inr (omega arith)))
 
-  -- the numbers that it stops with
-  pub batch-numbers-sound : Sound w → OneOf (0 ∷ 5 ∷ 6 ∷ 7 ∷ []) (r .number)
-  batch-numbers-sound S = stop-numbers input (r .read) _ (one-by-one B S .stop)
+  -- why it stopped where it did, and the numbers that it can stop with
+  pub batch-stopped : Sound w → Stopped input (r .read) (length out - r .written) (r .number)
+  batch-stopped S = stopped input (r .read) (length out - r .written) (one-by-one B S .stop)
 
-  pub batch-numbers : OneOf (0 ∷ 1 ∷ 4 ∷ 5 ∷ 6 ∷ 7 ∷ []) (r .number)
+  pub batch-numbers : OneOf (4 ∷ 1 ∷ 0 ∷ 5 ∷ 6 ∷ 7 ∷ []) (r .number)
   batch-numbers =
-      decided w (λ n. inr (inr (inl (cc (B .misfit n .ran))))) (λ z u. inr (inl (cc (B .unsound z u .ran))))
-      (λ b H. more (batch-numbers-sound (b, H)))
+      decided w (λ n. inl (cc (B .misfit n .ran))) (λ z u. inr (inl (cc (B .unsound z u .ran))))
+      (λ b H. inr (inr (one-of (batch-stopped (b, H)))))
     where
-      more : OneOf (0 ∷ 5 ∷ 6 ∷ 7 ∷ []) (r .number) → OneOf (0 ∷ 1 ∷ 4 ∷ 5 ∷ 6 ∷ 7 ∷ []) (r .number)
-      more (inl e) = inl e
-      more (inr o) = inr (inr (inr o))
+      one-of : {k : ℕ} → Stopped input (r .read) (length out - r .written) k → OneOf (0 ∷ 5 ∷ 6 ∷ 7 ∷ []) k
+      one-of (ended l) = inl refl
+      one-of (unknown l m) = inr (inl refl)
+      one-of (cut n l m e k) = inr (inr (inl refl))
+      one-of (full c n e l) = inr (inr (inr (inl refl)))
 
   -- ---- demand 3: a sound pool stays sound
 

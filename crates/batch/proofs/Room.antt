@@ -80,21 +80,26 @@ module _ (input : List ℕ) (size : ℕ) (wide : 9 * length input + 4 ≤ size) 
 
 -- ---- however long the output is
 
--- each command has room for its record
-singly-fits : {input : List ℕ} {size : ℕ} {s e : Stage} {cs : List Command} → Singly input size s cs e → length (s .bytes) ≤ size
-    → length (e .bytes) ≤ size
-singly-fits (none s) l = l
-singly-fits {input} {size} (next s c n a v cs e t C S) l =
+-- each command ends in the input, and has room for its record
+singly-fits : {input : List ℕ} {size : ℕ} {s e : Stage} {cs : List Command} → Singly input size s cs e → s .at ≤ length input
+    → length (s .bytes) ≤ size → (e .at ≤ length input) × (length (e .bytes) ≤ size)
+singly-fits (none s) l m = (l, m)
+singly-fits {input} {size} (next s c n a v cs e t C S) l m =
     let room = size - length (s .bytes) in
     let f = subst (Runnable input (s .at) room) t (runnable input (s .at) room) in
     let r = recordBytes (replyTo c a) in
-    singly-fits S (omega (arith, length-append (s .bytes) r, record-length (replyTo c a), f .2))
+    singly-fits S (f .1) (omega (arith, length-append (s .bytes) r, record-length (replyTo c a), f .2))
 
--- what a batch wrote lies in the output
-pub written-fits : {w : List ℕ} (input : List ℕ) {out : List ℕ} {r : Ran} {w′ out′ : List ℕ} → Batches w input out r w′ out′
-    → r .written ≤ length out
-written-fits {w} input B =
-    decided w (λ n. rw (B .misfit n .ran) (omega arith)) (λ z u. rw (B .unsound z u .ran) (omega arith))
-    (λ b H.
-    let O = one-by-one B (b, H) in
-    rw (O .written) (singly-fits (O .called) (omega arith)))
+-- what a batch read lies in the input, and what it wrote in the output
+module _ {w : List ℕ} (input : List ℕ) {out : List ℕ} {r : Ran} {w′ out′ : List ℕ} (B : Batches w input out r w′ out′) where
+  pub read-fits : r .read ≤ length input
+  read-fits =
+      decided w (λ n. rw (B .misfit n .ran) (omega arith)) (λ z u. rw (B .unsound z u .ran) (omega arith))
+      (λ b H. singly-fits (one-by-one B (b, H) .called) (omega arith) (omega arith) .0)
+
+  pub written-fits : r .written ≤ length out
+  written-fits =
+      decided w (λ n. rw (B .misfit n .ran) (omega arith)) (λ z u. rw (B .unsound z u .ran) (omega arith))
+      (λ b H.
+      let O = one-by-one B (b, H) in
+      rw (O .written) (singly-fits (O .called) (omega arith) (omega arith) .1))

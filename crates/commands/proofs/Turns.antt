@@ -1,20 +1,21 @@
 -- The laws of a batch's turns: which one comes, and what it means for the rest.
 use mathlib.Core.Path.{_≡_, refl, sym, ap, subst, _∙_}
-use mathlib.Core.List.{List, [], _∷_}
-use mathlib.Core.Logic.{inl, inr}
+use mathlib.Core.List.{List}
+use mathlib.Core.Logic.{_⊎_}
 use mathlib.Core.Bool.{Bool, true, false, cond}
 use Prim.Native.Nat.{ℕ, zero, suc, _+_, _-_, _≤_, _<_}
 use native.Mathlib.Omega.{arith}
-use borrow.Author.Tests.{ltb-true, ltb-false, lt-ltb, le-ltb}
-use lib.Dec.{ltb}
-use lib.ListN.{length}
-use Rattle.lists.proofs.OneOf.{OneOf}
+use borrow.Author.Tests.{leb-true, leb-false, ltb-true, ltb-false, lt-ltb, le-ltb}
+use lib.Dec.{leb, ltb}
+use lib.ListN.{length, getD}
 use Rattle.records.specs.declared.Command.{Command}
 use Rattle.records.specs.declared.Next.{Next}
 use Rattle.records.specs.declared.Next.the-variants.{End, UnknownKind, CutShort, Whole}
-use Rattle.records.specs.Commands.{nextAt}
+use Rattle.records.specs.declared.Body.{Body}
+use Rattle.records.specs.declared.Body.the-variants.{Bytes, Unknown}
+use Rattle.records.specs.Commands.{bodyOf, commandAt, wholeAt, nextAt}
 use Rattle.records.specs.Answers.{longestRecord}
-use Rattle.records.proofs.Laws.{Fits, next-end, next-fits}
+use Rattle.records.proofs.Laws.{Listed, listed, Fits, next-end, next-whole, next-fits}
 use Rattle.commands.specs.declared.Turn.{Turn}
 use Rattle.commands.specs.declared.Turn.the-variants.{Stop, Run}
 use Rattle.commands.specs.Steps.{turnOf, turnAt, Reply, Progress, advanced, batchFrom}
@@ -71,24 +72,43 @@ module _ (s : List ℕ) (at room : ℕ) where
       go CutShort f = λ e. absurd (omega arith)
       go (Whole c n) f = fits c n f (ltb room longestRecord) refl
 
-  -- it stops with one of four numbers
-  abbrev Numbered : Turn → Type 0
-  Numbered (Stop k) = OneOf (0 ∷ 5 ∷ 6 ∷ 7 ∷ []) k
-  Numbered (Run c n) = Unit {0}
+-- ---- why it stops
 
-  pub stop-numbers : {k : ℕ} → turnAt s at room ≡ Stop k → OneOf (0 ∷ 5 ∷ 6 ∷ 7 ∷ []) k
-  unfolding turnAt
-  stop-numbers e = subst Numbered e (go (nextAt s at))
+-- at a place of the input, with so much room: the input ends there; a kind that is unknown; a known kind, and the input ends inside its
+-- body; or a whole command, and fewer than 13 bytes for its record
+pub data Stopped (s : List ℕ) (at room : ℕ) : ℕ → Type 0 where
+  ended : length s ≤ at → Stopped s at room 0
+  unknown : at < length s → (getD s at 0 ≡ 0) ⊎ (7 ≤ getD s at 0) → Stopped s at room 5
+  cut : (n : ℕ) → at < length s → (1 ≤ getD s at 0) × (getD s at 0 ≤ 6) → bodyOf (getD s at 0) ≡ Bytes n → length s < at + 1 + n
+      → Stopped s at room 6
+  full : (c : Command) (n : ℕ) → nextAt s at ≡ Whole c n → room < 13 → Stopped s at room 7
+
+module _ (s : List ℕ) (at room : ℕ) where
+  abbrev Why : Turn → Type 0
+  Why (Stop k) = Stopped s at room k
+  Why (Run c n) = Unit {0}
+
+  pub stopped : {k : ℕ} → turnAt s at room ≡ Stop k → Stopped s at room k
+  unfolding turnAt nextAt
+  stopped e = subst Why e (at-end (leb (length s) at) refl)
     where
-      fits : (c : Command) (n : ℕ) (b : Bool) → Numbered (cond b (Stop 7) (Run c n))
-      fits c n true = inr (inr (inr (inl refl)))
-      fits c n false = tt
+      fits : (c : Command) (n : ℕ) → nextAt s at ≡ Whole c n → (b : Bool) → ltb room longestRecord ≡ b → Why (cond b (Stop 7) (Run c n))
+      fits c n e true q = full c n e (ltb-true room longestRecord q)
+      fits c n e false q = tt
 
-      go : (x : Next) → Numbered (turnOf x room)
-      go End = inl refl
-      go UnknownKind = inr (inl refl)
-      go CutShort = inr (inr (inl refl))
-      go (Whole c n) = fits c n (ltb room longestRecord)
+      whole : at < length s → (n : ℕ) → bodyOf (getD s at 0) ≡ Bytes n → (b : Bool) → leb (at + 1 + n) (length s) ≡ b
+          → Why (turnOf (cond b (Whole (commandAt s at) (n + 1)) CutShort) room)
+      whole l n e true q =
+          fits (commandAt s at) (n + 1) (next-whole s at l e (leb-true (at + 1 + n) (length s) q)) (ltb room longestRecord) refl
+      whole l n e false q = cut n l (subst (Listed (getD s at 0)) e (listed (getD s at 0))) e (leb-false (at + 1 + n) (length s) q)
+
+      known : at < length s → (b : Body) → bodyOf (getD s at 0) ≡ b → Why (turnOf (wholeAt s at b) room)
+      known l Unknown e = unknown l (subst (Listed (getD s at 0)) e (listed (getD s at 0)))
+      known l (Bytes n) e = whole l n e (leb (at + 1 + n) (length s)) refl
+
+      at-end : (b : Bool) → leb (length s) at ≡ b → Why (turnOf (cond b End (wholeAt s at (bodyOf (getD s at 0)))) room)
+      at-end true q = ended (leb-true (length s) at q)
+      at-end false q = known (leb-false (length s) at q) (bodyOf (getD s at 0)) refl
 
 -- ---- the rest of a batch
 

@@ -2,7 +2,9 @@
 use mathlib.Core.Path.{_≡_, refl, sym, ap, subst, _∙_}
 use mathlib.Core.List.{List}
 use mathlib.Core.Bool.{Bool, true, false, cond}
+use mathlib.Core.Logic.{_⊎_, inl, inr}
 use Prim.Native.Nat.{ℕ, zero, suc, _+_, _-_, _*_, _/_, _%_, _^_, _≤_, _<_}
+use native.Mathlib.Decide.{decLt}
 use native.Mathlib.Omega.{arith}
 use lib.Dec.{eqb, leb}
 use lib.ListN.{length, getD}
@@ -11,7 +13,7 @@ use Rattle.lists.proofs.All.{All, nil, cons}
 use Rattle.words.specs.Words.{run}
 use Rattle.words.proofs.Laws.{run-cons}
 use Rattle.records.specs.Numbers.{bytesOf, numberOf, numberAt}
-use borrow.Author.Tests.{leb-true, le-leb, lt-leb}
+use borrow.Author.Tests.{eqb-true, eqb-false, leb-true, leb-false, le-leb, lt-leb}
 use Rattle.records.specs.Commands.{bodyOf, commandAt, Stands, wholeAt, nextAt}
 use Rattle.records.specs.declared.Body.{Body}
 use Rattle.records.specs.declared.Body.the-variants.{Bytes, Unknown}
@@ -99,6 +101,35 @@ module _ (s : List ℕ) (at : ℕ) (h : at < length s) where
   pub next-whole : {n : ℕ} → bodyOf (getD s at 0) ≡ Bytes n → at + 1 + n ≤ length s → nextAt s at ≡ Whole (commandAt s at) (n + 1)
   unfolding nextAt
   next-whole {n} e l = rw (lt-leb (length s) at h, e, le-leb (at + 1 + n) (length s) l)
+
+-- the kinds that are known, in figures
+abbrev pub Listed : ℕ → Body → Type 0
+Listed k Unknown = (k ≡ 0) ⊎ (7 ≤ k)
+Listed k (Bytes n) = (1 ≤ k) × (k ≤ 6)
+
+pub listed : (k : ℕ) → Listed k (bodyOf k)
+unfolding bodyOf
+listed k = go (eqb k 1) (eqb k 2) (eqb k 3) (eqb k 4) (eqb k 5) (eqb k 6) refl refl refl refl refl refl
+  where
+    is : (n : ℕ) → 1 ≤ n → n ≤ 6 → eqb k n ≡ true → (1 ≤ k) × (k ≤ 6)
+    is n l m p = (omega (arith, eqb-true k n p), omega (arith, eqb-true k n p))
+
+    go : (b c d e f g : Bool) → eqb k 1 ≡ b → eqb k 2 ≡ c → eqb k 3 ≡ d → eqb k 4 ≡ e → eqb k 5 ≡ f → eqb k 6 ≡ g
+        → Listed k (cond b (Bytes 12) (cond c (Bytes 4) (cond d (Bytes 8) (cond e (Bytes 4) (cond f (Bytes 12) (cond g (Bytes 0) Unknown))))))
+    go true c d e f g p q r s t u = is 1 (omega arith) (omega arith) p
+    go false true d e f g p q r s t u = is 2 (omega arith) (omega arith) q
+    go false false true e f g p q r s t u = is 3 (omega arith) (omega arith) r
+    go false false false true f g p q r s t u = is 4 (omega arith) (omega arith) s
+    go false false false false true g p q r s t u = is 5 (omega arith) (omega arith) t
+    go false false false false false true p q r s t u = is 6 (omega arith) (omega arith) u
+    go false false false false false false p q r s t u =
+        let a = eqb-false k 1 p in
+        let b = eqb-false k 2 q in
+        let c = eqb-false k 3 r in
+        let d = eqb-false k 4 s in
+        let e = eqb-false k 5 t in
+        let f = eqb-false k 6 u in
+        elim (decLt 0 k) [ yes l ↦ inr (omega arith) | no l ↦ inl (omega arith) ]
 
 -- the longest record answers a get, which has a body
 abbrev pub Bodied : Command → ℕ → Type 0
