@@ -1,5 +1,5 @@
 -- Each promise can be kept: every call on a lawful bag leaves a lawful bag, and the words of one meet the promise.
-use mathlib.Core.Path.{_≡_, refl, sym, ap, subst}
+use mathlib.Core.Path.{_≡_, refl, sym, subst}
 use mathlib.Core.List.{List}
 use Prim.Native.Nat.{ℕ}
 use native.Mathlib.Decide.{decLt}
@@ -11,11 +11,11 @@ use Rattle.model.specs.Calls.{Outcome, lengthOf, insertCall, pushCall, replaceC
 use Rattle.model.proofs.Calls.{insert-beyond, insert-full, insert-done, replace-beyond, replace-done, remove-beyond, remove-done}
 use Rattle.model.proofs.Bags.{bag-insert, bag-replace, bag-remove}
 use Rattle.pool.specs.Layout.{words}
-use Rattle.pool.specs.Sound.{Lawful, Holds}
+use Rattle.pool.specs.Sound.{Lawful, Holds, Sound, Sized}
 use Rattle.pool.proofs.Read.{one-bag}
 use Rattle.pool.proofs.Sized.{holds-sized}
 use Rattle.calls.proofs.Bags.{lawful-edited}
-use Rattle.admission.specs.Promise.{Edits, Tells}
+use Rattle.admission.specs.Promise.{Promise, Edits, Tells}
 
 -- ---- a call leaves a lawful bag
 
@@ -59,21 +59,24 @@ pub left-words : (call : Bag → Outcome) → Lawfully call → {w : List ℕ} {
 left-words call K {w} {b} H =
     (words (H .nodes) (call b .bag), record { nodes = H .nodes; lawful = K (H .nodes) b (H .lawful); layout = refl })
 
--- ---- what a call on the bag gives and leaves keeps the promise
+-- ---- what is promised in the one case that applies keeps the promise
+
+module _ {w : List ℕ} {Four One : Type 0} {Held : Bag → Type 0} where
+  pub misfit-kept : (Sized w → ⊥) → Four → Promise w Four One Held
+  misfit-kept n x = record { misfit = λ _. x; unsound = λ s _. absurd (n s); holds = λ b H. absurd (n (holds-sized H)) }
+
+  pub unsound-kept : Sized w → (Sound w → ⊥) → One → Promise w Four One Held
+  unsound-kept s u x = record { misfit = λ n. absurd (n s); unsound = λ _ _. x; holds = λ b H. absurd (u (b, H)) }
+
+  pub held-kept : {b : Bag} → Holds w b → Held b → Promise w Four One Held
+  held-kept {b} H x = record {
+    misfit = λ n. absurd (n (holds-sized H));
+    unsound = λ s u. absurd (u (b, H));
+    holds = λ d J. subst Held (one-bag H J) x;
+  }
 
 pub edits-held : (call : Bag → Outcome) {w w′ : List ℕ} {b : Bag} → Holds w b → Holds w′ (call b .bag) → Edits call w (call b .answer) w′
-edits-held call {w} {w′} {b} H K = record {
-  misfit = λ n. absurd (n (holds-sized H));
-  unsound = λ z u. absurd (u (b, H));
-  holds = λ d J. (
-    ap (λ (b : Bag). call b .answer) (one-bag H J),
-    subst (λ (b : Bag). Holds w′ (call b .bag)) (one-bag H J) K,
-  );
-}
+edits-held call H K = held-kept H (refl, K)
 
 pub tells-held : {A : Type 0} (refuse : ℕ → A) (ask : Bag → A) {w : List ℕ} {b : Bag} → Holds w b → Tells refuse ask w (ask b)
-tells-held refuse ask {w} {b} H = record {
-  misfit = λ n. absurd (n (holds-sized H));
-  unsound = λ z u. absurd (u (b, H));
-  holds = λ d J. ap ask (one-bag H J);
-}
+tells-held refuse ask H = held-kept H refl

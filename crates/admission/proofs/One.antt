@@ -11,7 +11,7 @@ use Rattle.pool.proofs.Read.{one-pool}
 use Rattle.pool.proofs.Sized.{holds-sized}
 use Rattle.pool.proofs.Decide.{sized?, sound?}
 use Rattle.views.specs.Part.{nowhere, partCall}
-use Rattle.admission.proofs.Kept.{Lawfully, left-words, edits-held, tells-held}
+use Rattle.admission.proofs.Kept.{Lawfully, left-words, misfit-kept, unsound-kept, edits-held, tells-held}
 use Rattle.admission.specs.Promise.{Edits, Tells, Compares, Formats, Windows}
 
 -- every list of words is of one of the three kinds
@@ -39,16 +39,16 @@ tells-one refuse ask {w} P Q =
 pub tells-some : {A : Type 0} (refuse : ℕ → A) (ask : Bag → A) (w : List ℕ) → (r : A) × Tells refuse ask w r
 tells-some refuse ask w =
     decided w
-    (λ n. (refuse 4, record { misfit = λ _. refl; unsound = λ z _. absurd (n z); holds = λ b H. absurd (n (holds-sized H)) }))
-    (λ z u. (refuse 1, record { misfit = λ n. absurd (n z); unsound = λ _ _. refl; holds = λ b H. absurd (u (b, H)) }))
+    (λ n. (refuse 4, misfit-kept n refl))
+    (λ z u. (refuse 1, unsound-kept z u refl))
     (λ b H. (ask b, tells-held refuse ask H))
 
 -- an edit too, by the words of the bag that the call leaves
 pub edits-some : (call : Bag → Outcome) → Lawfully call → (w : List ℕ) → (r : Answer) × (w′ : List ℕ) × Edits call w r w′
 edits-some call K w =
     decided w
-    (λ n. (refused 4, w, record { misfit = λ _. (refl, refl); unsound = λ z _. absurd (n z); holds = λ b H. absurd (n (holds-sized H)) }))
-    (λ z u. (refused 1, w, record { misfit = λ n. absurd (n z); unsound = λ _ _. (refl, refl); holds = λ b H. absurd (u (b, H)) }))
+    (λ n. (refused 4, w, misfit-kept n (refl, refl)))
+    (λ z u. (refused 1, w, unsound-kept z u (refl, refl)))
     (λ b H. (call b .answer, left-words call K H .0, edits-held call H (left-words call K H .1)))
 
 pub compares-one : {v w : List ℕ} {r s : Answer} → Compares v w r → Compares v w s → r ≡ s

@@ -6,8 +6,8 @@ use native.Mathlib.Omega.{arith}
 use lib.ListN.{length}
 use lib.Seq.{sets}
 use Rattle.pool.specs.Sound.{Sound}
-use Rattle.pool.proofs.Read.{one-pool, one-bag}
-use Rattle.pool.proofs.Sized.{holds-sized}
+use Rattle.pool.proofs.Read.{one-pool}
+use Rattle.admission.proofs.Kept.{misfit-kept, unsound-kept, held-kept}
 use Rattle.admission.proofs.One.{decided}
 use Rattle.commands.specs.declared.Ran.{Ran}
 use Rattle.commands.specs.Steps.{start, batchOf}
@@ -31,39 +31,11 @@ batches-one {w} input P Q =
 
 pub batches-some : (w input out : List ℕ) → (r : Ran) × (w′ out′ : List ℕ) × Batches w input out r w′ out′
 batches-some w input out =
-    decided w
-    (λ n. (
-      ranNothing 4,
-      w,
-      out,
-      record {
-        misfit = λ _. idle;
-        unsound = λ z _. absurd (n z);
-        holds = λ b H. absurd (n (holds-sized H));
-      },
-    ))
-    (λ z u. (
-      ranNothing 1,
-      w,
-      out,
-      record {
-        misfit = λ n. absurd (n z);
-        unsound = λ _ _. idle;
-        holds = λ b H. absurd (u (b, H));
-      },
-    ))
+    decided w (λ n. (ranNothing 4, w, out, misfit-kept n idle)) (λ z u. (ranNothing 1, w, out, unsound-kept z u idle))
     (λ b H.
     let e = batchOf onBag input (length out) b in
-    let T = rest input (length out) (length input) (start b) w (omega arith) H in (
-      ranOf e,
-      T .pool,
-      sets out 0 (e .progress .answers),
-      record {
-        misfit = λ n. absurd (n (holds-sized H));
-        unsound = λ z u. absurd (u (b, H));
-        holds = λ d J. rw (← (one-bag H J)) (record { ran = refl; holds = T .holds; output = refl });
-      },
-    ))
+    let T = rest input (length out) (length input) (start b) w (omega arith) H in
+    (ranOf e, T .pool, sets out 0 (e .progress .answers), held-kept H (record { ran = refl; holds = T .holds; output = refl })))
   where
     idle : {n : ℕ} → Idle n w out (ranNothing n) w out
     idle = record { ran = refl; words = refl; output = refl }

@@ -1,5 +1,5 @@
--- How much a batch writes: never more than the output holds; and at most 9 bytes for a byte read, so that an output of 9 bytes for each and
--- 4 more never stops it with 7.
+-- How much a batch reads and writes: never more than is lent; and at most 9 bytes are written for a byte read, so that an output of 9 bytes
+-- for each and 4 more never stops it with 7.
 use mathlib.Core.Path.{_≡_, refl, subst}
 use mathlib.Core.List.{List}
 use mathlib.Core.Bool.{Bool, true, false, cond}
