@@ -174,6 +174,7 @@ module _ {w w′ : List ℕ} {r : Answer} {b : Bag} (H : Holds w b) (i : ℕ) wh
     pub insert-past-the-end : lengthOf b < i → r ≡ answer 2 0 0
     insert-past-the-end l = done P H _ (insert-beyond b i x l) .0
 
+    -- more nodes are needed than are free
     pub insert-without-room : i ≤ lengthOf b → length (b .free) < needed (b .root) i → r ≡ answer 3 0 0
     insert-without-room l n = done P H _ (insert-full b i x l n) .0
 
@@ -182,6 +183,17 @@ module _ {w w′ : List ℕ} {r : Answer} {b : Bag} (H : Holds w b) (i : ℕ) wh
     insert-as-vec l n =
         let D = done P H _ (insert-done b i x l n) in
         (D .0, (bagInsert b i x, D .1, bag-insert b i x (H .lawful .fit) l n .edited .list))
+
+    -- no other insertion is answered 3
+    pub insert-refused-for-room : r .number ≡ 3 → length (b .free) < needed (b .root) i
+    insert-refused-for-room e =
+        elim (decLt (lengthOf b) i) [
+          | yes l ↦ absurd (omega (arith, ap (λ (a : Answer). a .number) (insert-past-the-end l)))
+          | no l ↦ elim (decLt (length (b .free)) (needed (b .root) i)) [
+            | yes n ↦ n
+            | no n ↦ absurd (omega (arith, ap (λ (a : Answer). a .number) (insert-as-vec (omega arith) (omega arith) .0)))
+          ]
+        ]
 
     -- demand 3's room rule
     pub insert-with-room : i ≤ lengthOf b → lengthOf b < 15 * nodesIn (length w) → r ≡ answer 0 0 0
@@ -207,6 +219,7 @@ module _ {w w′ : List ℕ} {r : Answer} {b : Bag} (H : Holds w b) (i : ℕ) wh
         (D .0 ∙ ap (λ (v : ℕ). answer 0 v 0) (R .old), (bagRemove b i .bag, D .1, R .edited .list))
 
 module _ {w w′ : List ℕ} {r : Answer} {b : Bag} (H : Holds w b) (x : ℕ) (P : Edits (pushCall x) w r w′) where
+  -- more nodes are needed than are free
   pub push-without-room : length (b .free) < needed (b .root) (lengthOf b) → r ≡ answer 3 0 0
   push-without-room n = done P H _ (push-at-end x b ∙ insert-full b (lengthOf b) x (omega arith) n) .0
 
@@ -215,6 +228,14 @@ module _ {w w′ : List ℕ} {r : Answer} {b : Bag} (H : Holds w b) (x : ℕ) (P
       let D = done P H _ (push-at-end x b ∙ insert-done b (lengthOf b) x (omega arith) n) in
       let E = bag-insert b (lengthOf b) x (H .lawful .fit) (omega arith) n .edited .list in
       (D .0, (bagInsert b (lengthOf b) x, D .1, E ∙ insertAt-end (listOf (b .root)) x))
+
+  -- no other push is answered 3
+  pub push-refused-for-room : r .number ≡ 3 → length (b .free) < needed (b .root) (lengthOf b)
+  push-refused-for-room e =
+      elim (decLt (length (b .free)) (needed (b .root) (lengthOf b))) [
+        | yes n ↦ n
+        | no n ↦ absurd (omega (arith, ap (λ (a : Answer). a .number) (push-as-vec (omega arith) .0)))
+      ]
 
   -- demand 3's room rule
   pub push-with-room : lengthOf b < 15 * nodesIn (length w) → r ≡ answer 0 0 0

@@ -13,7 +13,7 @@ use Rattle.lists.proofs.All.{All, nil, cons}
 use Rattle.words.specs.Words.{run}
 use Rattle.words.proofs.Laws.{run-cons}
 use Rattle.records.specs.Numbers.{bytesOf, numberOf, numberAt}
-use borrow.Author.Tests.{eqb-true, eqb-false, leb-true, leb-false, le-leb, lt-leb}
+use borrow.Author.Tests.{eqb-true, eqb-false, leb-true, le-leb, lt-leb}
 use Rattle.records.specs.Commands.{bodyOf, commandAt, Stands, wholeAt, nextAt}
 use Rattle.records.specs.declared.Body.{Body}
 use Rattle.records.specs.declared.Body.the-variants.{Bytes, Unknown}

@@ -1,4 +1,4 @@
--- Equality and the window, from what is known of the bag.
+-- A lookup and the window, from what is known of the bag.
 use mathlib.Core.Path.{_≡_, sym, ap, _∙_}
 use mathlib.Core.List.{List}
 use Prim.Native.Nat.{ℕ, _+_, _-_, _≤_, _<_}
@@ -28,7 +28,7 @@ use Rattle.model.proofs.Spans.{ShownRoot, root-shown-some, Spans, stretch-law}
 use Rattle.pool.proofs.Node.{elems-part, at-node}
 use Rattle.calls.proofs.Reading.{root-of, root-has, root-got}
 
--- ---- equality
+-- ---- a lookup
 
 -- the element that a lookup finds, as the list has it
 pub root-element : {w : List ℕ} {known : Known} (s : Ready w known) (i : ℕ) → i < lengthOf (s .bag) → (f : Found)
