@@ -40,6 +40,9 @@ use Rattle.views.proofs.Views.{part-beyond, part-fits, part-shows, part-some}
 use Rattle.admission.specs.Promise.{Promise, Edits, Tells, Compares, Formats, Windows}
 use Rattle.admission.proofs.One.{decided, tells-some}
 
+number-is : {a b : Answer} → a ≡ b → a .number ≡ b .number
+number-is e = ap (λ (a : Answer). a .number) e
+
 -- ---- demand 1: a length that does not fit is answered 4, a pool that is not sound 1, and nothing changes
 
 -- the words w are refused with n
@@ -94,14 +97,14 @@ refused-unchanged {call} K {w} {w′} {r} P z =
     held : (b : Bag) → Holds w b → (r ≡ answer (r .number) 0 0) × (w′ ≡ w)
     held b H =
         let e : r ≡ call b .answer = P .holds b H .0 in
-        let k = K b (λ y. z (ap (λ (a : Answer). a .number) e ∙ y)) in
+        let k = K b (λ y. z (number-is e ∙ y)) in
         (rw e (ap (λ (o : Outcome). o .answer) k), one-pool (subst (λ (o : Outcome). Holds w′ (o .bag)) k (P .holds b H .1)) H)
 
 pub told-zeros : {ask : Bag → Answer} → Zeros ask → {w : List ℕ} {r : Answer} → Tells refused ask w r → (r .number ≡ 0 → ⊥)
     → r ≡ answer (r .number) 0 0
 told-zeros K {w} P z =
     decided w (λ n. rw (P .misfit n)) (λ s u. rw (P .unsound s u))
-    (λ b H. rw (P .holds b H) (K b (λ y. z (ap (λ (a : Answer). a .number) (P .holds b H) ∙ y))))
+    (λ b H. rw (P .holds b H) (K b (λ y. z (number-is (P .holds b H) ∙ y))))
 
 pub compares-zeros : {v w : List ℕ} {r : Answer} → Compares v w r → (r .number ≡ 0 → ⊥) → r ≡ answer (r .number) 0 0
 compares-zeros {v} P z = decided v (λ n. rw (P .misfit n)) (λ s u. rw (P .unsound s u)) (λ a G. told-zeros (equal-zeros a) (P .holds a G) z)
@@ -119,8 +122,8 @@ pub edits-numbers : {call : Bag → Outcome} (ns : List ℕ) → ((b : Bag) → 
     → Edits call w r w′ → OneOf (4 ∷ 1 ∷ ns) (r .number)
 edits-numbers ns K {r = r} P =
     promised-numbers ns (record {
-      misfit = λ n. ap (λ (a : Answer). a .number) (P .misfit n .0);
-      unsound = λ s u. ap (λ (a : Answer). a .number) (P .unsound s u .0);
+      misfit = λ n. number-is (P .misfit n .0);
+      unsound = λ s u. number-is (P .unsound s u .0);
       holds = λ b H. rw (P .holds b H .0) (K b);
     })
 
@@ -137,14 +140,14 @@ pub formats-numbers : {w w′ : List ℕ} {r : Answer} → Formats w r w′ → 
 formats-numbers {w} {r = r} P = go (sized? w)
   where
     go : Sized w ⊎ (Sized w → ⊥) → OneOf (4 ∷ 0 ∷ []) (r .number)
-    go (inl s) = inr (inl (ap (λ (a : Answer). a .number) (P .fits s .0)))
-    go (inr n) = inl (ap (λ (a : Answer). a .number) (P .misfit n .0))
+    go (inl s) = inr (inl (number-is (P .fits s .0)))
+    go (inr n) = inl (number-is (P .misfit n .0))
 
 pub compares-numbers : {v w : List ℕ} {r : Answer} → Compares v w r → OneOf (4 ∷ 1 ∷ 4 ∷ 1 ∷ 0 ∷ []) (r .number)
 compares-numbers P =
     promised-numbers (4 ∷ 1 ∷ 0 ∷ []) (record {
-      misfit = λ n. ap (λ (a : Answer). a .number) (P .misfit n);
-      unsound = λ s u. ap (λ (a : Answer). a .number) (P .unsound s u);
+      misfit = λ n. number-is (P .misfit n);
+      unsound = λ s u. number-is (P .unsound s u);
       holds = λ b H. tells-numbers (λ (a : Answer). a .number) refused (0 ∷ []) (λ n. refl) (equal-numbers b) (P .holds b H);
     })
 
@@ -188,10 +191,10 @@ module _ {w w′ : List ℕ} {r : Answer} {b : Bag} (H : Holds w b) (i : ℕ) wh
     pub insert-refused-for-room : r .number ≡ 3 → length (b .free) < needed (b .root) i
     insert-refused-for-room e =
         elim (decLt (lengthOf b) i) [
-          | yes l ↦ absurd (omega (arith, ap (λ (a : Answer). a .number) (insert-past-the-end l)))
+          | yes l ↦ absurd (omega (arith, number-is (insert-past-the-end l)))
           | no l ↦ elim (decLt (length (b .free)) (needed (b .root) i)) [
             | yes n ↦ n
-            | no n ↦ absurd (omega (arith, ap (λ (a : Answer). a .number) (insert-as-vec (omega arith) (omega arith) .0)))
+            | no n ↦ absurd (omega (arith, number-is (insert-as-vec (omega arith) (omega arith) .0)))
           ]
         ]
 
@@ -234,7 +237,7 @@ module _ {w w′ : List ℕ} {r : Answer} {b : Bag} (H : Holds w b) (x : ℕ) (P
   push-refused-for-room e =
       elim (decLt (length (b .free)) (needed (b .root) (lengthOf b))) [
         | yes n ↦ n
-        | no n ↦ absurd (omega (arith, ap (λ (a : Answer). a .number) (push-as-vec (omega arith) .0)))
+        | no n ↦ absurd (omega (arith, number-is (push-as-vec (omega arith) .0)))
       ]
 
   -- demand 3's room rule
@@ -299,9 +302,11 @@ pub data NoElement (w : List ℕ) (i : ℕ) : Type 0 where
   unsound : (Sound w → ⊥) → NoElement w i
   short : (b : Bag) → Holds w b → lengthOf b ≤ i → NoElement w i
 
-no-element : (w : List ℕ) (i : ℕ) → ((b : Bag) → Holds w b → i < lengthOf b → ⊥) → NoElement w i
-no-element w i f =
-    decided w misfit (λ z u. unsound u) (λ b H. elim (decLt i (lengthOf b)) [ yes l ↦ absurd (f b H l) | no n ↦ short b H (omega arith) ])
+-- there is an element i, or not
+by-element : {X : Type 0} (w : List ℕ) (i : ℕ) → (NoElement w i → X) → ((b : Bag) → Holds w b → i < lengthOf b → X) → X
+by-element w i f g =
+    decided w (λ n. f (misfit n)) (λ z u. f (unsound u))
+    (λ b H. elim (decLt i (lengthOf b)) [ yes l ↦ g b H l | no n ↦ f (short b H (omega arith)) ])
 
 -- the span that `part` tells
 
@@ -320,12 +325,17 @@ module _ {i : ℕ} {w : List ℕ} {s : Span} (T : Tells (λ _. nowhere) (partCal
 
   -- empty exactly if there is no element i
   pub span-empty : s .count ≡ 0 → NoElement w i
-  span-empty z = no-element w i (λ b H l. omega (arith, part-some (holds-stands H) i l, ap (λ (t : Span). t .count) (T .holds b H)))
+  span-empty z =
+      by-element w i (λ N. N)
+      (λ b H l. absurd (omega (arith, part-some (holds-stands H) i l, ap (λ (t : Span). t .count) (T .holds b H))))
 
   pub span-refused : NoElement w i → s ≡ record { start = 0; count = 0 }
   span-refused (misfit n) = T .misfit n
   span-refused (unsound u) = decided w (T .misfit) (T .unsound) (λ b H. absurd (u (b, H)))
   span-refused (short b H l) = T .holds b H ∙ part-beyond b i l
+
+  pub span-found : (s .count ≡ 0 → ⊥) → (b : Bag) × Holds w b × (i < lengthOf b)
+  span-found z = by-element w i (λ N. absurd (z (ap (λ (t : Span). t .count) (span-refused N)))) (λ b H l. (b, H, l))
 
 -- the words that `window` lends
 
@@ -344,18 +354,21 @@ module _ (i : ℕ) (w : List ℕ) (ptr : ℕ × ℕ) {r : List ℕ} {at : ℕ ×
     window-list = root-shown-list (b .root) i r (H .lawful .fit) window-shows
 
   pub window-empty : r ≡ [] → NoElement w i
-  window-empty e = no-element w i (λ b H l. omega (arith, root-shown-some (b .root) i r (window-shows H l), ap length e))
+  window-empty e = by-element w i (λ N. N) (λ b H l. absurd (omega (arith, root-shown-some (b .root) i r (window-shows H l), ap length e)))
 
   pub window-refused : NoElement w i → r ≡ []
   unfolding run
   window-refused N = lent ∙ ap (λ (s : Span). run w (s .start) (s .count)) (span-refused (told .1) N)
 
+  pub window-found : (r ≡ [] → ⊥) → (b : Bag) × Holds w b × (i < lengthOf b)
+  window-found z = by-element w i (λ N. absurd (z (window-refused N))) (λ b H l. (b, H, l))
+
 -- ---- demand 3: every accepted call leaves a sound pool, with every node in the tree or free, once
 
 pub accepted-sound : {call : Bag → Outcome} {w w′ : List ℕ} {r : Answer} → Edits call w r w′ → r .number ≡ 0 → Sound w′
 accepted-sound {call} {w} P e =
-    decided w (λ n. absurd (omega (arith, ap (λ (a : Answer). a .number) (P .misfit n .0))))
-    (λ s u. absurd (omega (arith, ap (λ (a : Answer). a .number) (P .unsound s u .0))))
+    decided w (λ n. absurd (omega (arith, number-is (P .misfit n .0))))
+    (λ s u. absurd (omega (arith, number-is (P .unsound s u .0))))
     (λ b H. (call b .bag, P .holds b H .1))
 
 pub format-sound : {w w′ : List ℕ} {r : Answer} → Formats w r w′ → Sized w → Sound w′
