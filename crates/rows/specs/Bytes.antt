@@ -9,7 +9,7 @@ use Rattle.rows.specs.Row.{Row, runs}
 abbrev ran : ℕ → ℕ → ℕ → ℕ → Ran
 ran n c r w = record { number = n; commands = c; read = r; written = w }
 
--- numbers below 256 in 4 bytes and in 8, and one in 8 bytes that are all different
+-- numbers below 256 in 4 bytes and in 8; and one in 8 bytes that all differ
 abbrev small : ℕ → List ℕ
 small i = i ∷ 0 ∷ 0 ∷ 0 ∷ []
 
@@ -18,6 +18,9 @@ wide x = x ∷ 0 ∷ 0 ∷ 0 ∷ 0 ∷ 0 ∷ 0 ∷ 0 ∷ []
 
 abbrev mixed : List ℕ
 mixed = 1 ∷ 2 ∷ 3 ∷ 4 ∷ 5 ∷ 6 ∷ 7 ∷ 255 ∷ []
+
+abbrev mixedNumber : ℕ
+mixedNumber = 18376663423120507393
 
 -- commands
 abbrev insert : ℕ → List ℕ → List ℕ
@@ -46,15 +49,16 @@ got x n = 133 ∷ (x ++ small n)
 abbrev three : List ℕ
 three = push (wide 7) ++ (get 0 ++ remove 1)
 
--- all six kinds, accepted and, where they can be, refused
+-- all six kinds, accepted and, where they can be, refused; the last index is 2 ^ 24
 abbrev every : List ℕ
 every =
-    push mixed ++ (insert 1 (wide 9) ++ (replace 0 (wide 8) ++ (6 ∷ (get 1 ++ (remove 1 ++ (insert 2 mixed ++ (replace 1 mixed ++ (get 1
-    ++ (remove 1 ++ push mixed)))))))))
+    push (wide 7) ++ (insert 1 mixed ++ (replace 0 mixed ++ (6 ∷ (get 1 ++ (remove 1 ++ (insert 2 mixed ++ (replace 1 mixed ++ (get 1
+    ++ (remove 1 ++ (push mixed ++ (push (wide 9) ++ (4 ∷ 0 ∷ 0 ∷ 0 ∷ 1 ∷ []))))))))))))
 
 abbrev everyAnswer : List ℕ
 everyAnswer =
-    129 ∷ 129 ∷ (element mixed ++ (131 ∷ (wide 2 ++ (got (wide 9) 0 ++ (element (wide 9) ++ (132 ∷ 2 ∷ 132 ∷ 2 ∷ 132 ∷ 2 ∷ 132 ∷ 2 ∷ 129 ∷ []))))))
+    129 ∷ 129 ∷ (element (wide 7) ++ (131 ∷ (wide 2 ++ (got mixed 0 ++ (element mixed ++ (132 ∷ 2 ∷ 132 ∷ 2 ∷ 132 ∷ 2 ∷ 132 ∷ 2 ∷ 129 ∷ 129
+    ∷ 132 ∷ 2 ∷ []))))))
 
 -- 1 to 32 pushed, and 32 times the answer that it is done
 abbrev pushed : List ℕ
@@ -66,27 +70,27 @@ done = map (λ x. 129) (from 1 32)
 unfoldable pub bytes : List Row
 unfolding from concat
 bytes =
-    runs 60 three 100 (ran 0 3 19 16) (129 ∷ (got (wide 7) 0 ++ (132 ∷ 2 ∷ []))) ∷
-    runs 60 three 27 (ran 0 3 19 16) (129 ∷ (got (wide 7) 0 ++ (132 ∷ 2 ∷ []))) ∷
-    runs 60 three 26 (ran 7 2 14 14) (129 ∷ got (wide 7) 0) ∷
+    runs 60 three 100 (ran 0 3 19 16) (129 ∷ (got (wide 7) 0 ++ (132 ∷ 2 ∷ []))) (7 ∷ []) ∷
+    runs 60 three 27 (ran 0 3 19 16) (129 ∷ (got (wide 7) 0 ++ (132 ∷ 2 ∷ []))) (7 ∷ []) ∷
+    runs 60 three 26 (ran 7 2 14 14) (129 ∷ got (wide 7) 0) (7 ∷ []) ∷
     -- every kind of command; comparisons; refused for want of room
-    runs 60 every 200 (ran 0 11 91 51) everyAnswer ∷
-    runs 3 (pushed ++ get 15) 100 (ran 0 33 293 45) (done ++ got (wide 16) 1) ∷
-    runs 0 (push (wide 7) ++ (insert 0 (wide 7) ++ insert 1 (wide 7))) 100 (ran 0 3 35 6) (132 ∷ 3 ∷ 132 ∷ 3 ∷ 132 ∷ 2 ∷ []) ∷
+    runs 60 every 200 (ran 0 13 105 54) everyAnswer (mixedNumber ∷ mixedNumber ∷ 9 ∷ []) ∷
+    runs 3 (pushed ++ get 15) 100 (ran 0 33 293 45) (done ++ got (wide 16) 1) (from 1 32) ∷
+    runs 0 (push (wide 7) ++ (insert 0 (wide 7) ++ insert 1 (wide 7))) 100 (ran 0 3 35 6) (132 ∷ 3 ∷ 132 ∷ 3 ∷ 132 ∷ 2 ∷ []) [] ∷
     -- the end of the input; a kind that is unknown
-    runs 1 [] 0 (ran 0 0 0 0) [] ∷
-    runs 1 (0 ∷ []) 100 (ran 5 0 0 0) [] ∷
-    runs 1 (6 ∷ 7 ∷ small 0) 100 (ran 5 1 1 9) (131 ∷ wide 0) ∷
-    runs 1 (255 ∷ []) 0 (ran 5 0 0 0) [] ∷
+    runs 1 [] 0 (ran 0 0 0 0) [] [] ∷
+    runs 1 (0 ∷ []) 100 (ran 5 0 0 0) [] [] ∷
+    runs 1 (6 ∷ 7 ∷ small 0) 100 (ran 5 1 1 9) (131 ∷ wide 0) [] ∷
+    runs 1 (255 ∷ []) 0 (ran 5 0 0 0) [] [] ∷
     -- a command cut short, by one byte of each kind
-    runs 1 (1 ∷ (small 0 ++ (7 ∷ 0 ∷ 0 ∷ 0 ∷ 0 ∷ 0 ∷ 0 ∷ []))) 100 (ran 6 0 0 0) [] ∷
-    runs 1 (2 ∷ 0 ∷ 0 ∷ 0 ∷ []) 100 (ran 6 0 0 0) [] ∷
-    runs 1 (3 ∷ 7 ∷ 0 ∷ 0 ∷ 0 ∷ 0 ∷ 0 ∷ 0 ∷ []) 0 (ran 6 0 0 0) [] ∷
-    runs 1 (6 ∷ 4 ∷ 0 ∷ 0 ∷ 0 ∷ []) 100 (ran 6 1 1 9) (131 ∷ wide 0) ∷
-    runs 1 (5 ∷ (small 0 ++ (7 ∷ 0 ∷ 0 ∷ 0 ∷ 0 ∷ 0 ∷ 0 ∷ []))) 100 (ran 6 0 0 0) [] ∷
+    runs 1 (1 ∷ (small 0 ++ (7 ∷ 0 ∷ 0 ∷ 0 ∷ 0 ∷ 0 ∷ 0 ∷ []))) 100 (ran 6 0 0 0) [] [] ∷
+    runs 1 (2 ∷ 0 ∷ 0 ∷ 0 ∷ []) 100 (ran 6 0 0 0) [] [] ∷
+    runs 1 (3 ∷ 7 ∷ 0 ∷ 0 ∷ 0 ∷ 0 ∷ 0 ∷ 0 ∷ []) 0 (ran 6 0 0 0) [] [] ∷
+    runs 1 (6 ∷ 4 ∷ 0 ∷ 0 ∷ 0 ∷ []) 100 (ran 6 1 1 9) (131 ∷ wide 0) [] ∷
+    runs 1 (5 ∷ (small 0 ++ (7 ∷ 0 ∷ 0 ∷ 0 ∷ 0 ∷ 0 ∷ 0 ∷ []))) 100 (ran 6 0 0 0) [] [] ∷
     -- 13 bytes of room for every answer, a short one too
-    runs 1 (6 ∷ []) 13 (ran 0 1 1 9) (131 ∷ wide 0) ∷
-    runs 1 (6 ∷ []) 12 (ran 7 0 0 0) [] ∷
-    runs 1 (push (wide 7) ++ (6 ∷ [])) 14 (ran 0 2 10 10) (129 ∷ 131 ∷ wide 1) ∷
-    runs 1 (push (wide 7) ++ (6 ∷ [])) 13 (ran 7 1 9 1) (129 ∷ []) ∷
+    runs 1 (6 ∷ []) 13 (ran 0 1 1 9) (131 ∷ wide 0) [] ∷
+    runs 1 (6 ∷ []) 12 (ran 7 0 0 0) [] [] ∷
+    runs 1 (push (wide 7) ++ (6 ∷ [])) 14 (ran 0 2 10 10) (129 ∷ 131 ∷ wide 1) (7 ∷ []) ∷
+    runs 1 (push (wide 7) ++ (6 ∷ [])) 13 (ran 7 1 9 1) (129 ∷ []) (7 ∷ []) ∷
     []

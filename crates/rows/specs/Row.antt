@@ -6,7 +6,7 @@ use lib.Dec.{eqb}
 use Rattle.lists.specs.Lists.{same}
 use Rattle.model.specs.declared.Answer.{Answer}
 use Rattle.model.specs.declared.Walked.{Walked}
-use Rattle.model.specs.Tree.{Bag, empty}
+use Rattle.model.specs.Tree.{Bag, empty, listOf}
 use Rattle.model.specs.Calls.{answer, Outcome, outcome, insertCall, pushCall, replaceCall, removeCall}
 use Rattle.model.specs.Calls.{checkCall, lenCall, getCall, skipCall, stays, equalCall}
 use Rattle.pool.specs.Layout.{words}
@@ -32,8 +32,8 @@ pub data Row : Type 0 where
   equals : ℕ → List Call → ℕ → List Call → Answer → Row
   -- a walk at a position is refused with n
   stops : ℕ → ℕ → Walked → Row
-  -- in an empty pool of p nodes a batch of these bytes, with room for n bytes of output, gives this and writes these
-  runs : ℕ → List ℕ → ℕ → Ran → List ℕ → Row
+  -- in an empty pool of p nodes a batch of these bytes, with room for n bytes of output, gives this, writes these and leaves this list
+  runs : ℕ → List ℕ → ℕ → Ran → List ℕ → List ℕ → Row
 
 -- ---- the test
 
@@ -67,7 +67,7 @@ sameRun a b =
     eqb (a .number) (b .number) && eqb (a .commands) (b .commands) && eqb (a .read) (b .read) && eqb (a .written) (b .written)
 
 unfoldable pub holds : Row → Bool
-unfolding accepted sameAnswer sameWalk sameRun same empty formatAnswer words skipCall equalCall batchFrom onBag
+unfolding accepted sameAnswer sameWalk sameRun same empty listOf formatAnswer words skipCall equalCall batchFrom onBag
 holds (formats n a) = sameAnswer (formatAnswer n) a
 holds (nodes n p) = sameAnswer (formatAnswer n) (answer 0 0 0) && eqb (nodesIn n) p
 holds (after p calls c a w) =
@@ -79,9 +79,9 @@ holds (walks p calls at m a) = accepted calls (empty p) (λ b. sameWalk (skipCal
 holds (equals p calls q others a) =
     accepted calls (empty p) (λ b. accepted others (empty q) (λ c. sameAnswer (equalCall b c) a))
 holds (stops at n a) = sameWalk (stays at n) a
-holds (runs p input n r out) =
+holds (runs p input n r out list) =
     let e = batchOf onBag input n (empty p) in
-    sameRun (ranOf e) r && same (e .progress .answers) out
+    sameRun (ranOf e) r && same (e .progress .answers) out && same (listOf (e .progress .state .root)) list
 
 unfoldable pub allHold : List Row → Bool
 unfolding holds
