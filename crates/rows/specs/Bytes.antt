@@ -38,59 +38,100 @@ get i = 4 ∷ small i
 abbrev replace : ℕ → List ℕ → List ℕ
 replace i x = 5 ∷ (small i ++ x)
 
+abbrev len : List ℕ
+len = 6 ∷ []
+
 -- answers
+abbrev done : List ℕ
+done = 129 ∷ []
+
 abbrev element : List ℕ → List ℕ
 element x = 130 ∷ x
+
+abbrev lengthIs : List ℕ → List ℕ
+lengthIs n = 131 ∷ n
+
+abbrev refusal : ℕ → List ℕ
+refusal n = 132 ∷ n ∷ []
 
 abbrev got : List ℕ → ℕ → List ℕ
 got x n = 133 ∷ (x ++ small n)
 
 -- a push, a lookup, and a removal that is refused: 01's example
 abbrev three : List ℕ
-three = push (wide 7) ++ (get 0 ++ remove 1)
+three = concat (push (wide 7) ∷ get 0 ∷ remove 1 ∷ [])
+
+abbrev threeAnswers : List ℕ
+threeAnswers = concat (done ∷ got (wide 7) 0 ∷ refusal 2 ∷ [])
 
 -- all six kinds, accepted and, where they can be, refused; the last index is 2 ^ 24
 abbrev every : List ℕ
 every =
-    push (wide 7) ++ (insert 1 mixed ++ (replace 0 mixed ++ (6 ∷ (get 1 ++ (remove 1 ++ (insert 2 mixed ++ (replace 1 mixed ++ (get 1
-    ++ (remove 1 ++ (push mixed ++ (push (wide 9) ++ (4 ∷ 0 ∷ 0 ∷ 0 ∷ 1 ∷ []))))))))))))
+    concat
+    (push (wide 7) ∷
+    insert 1 mixed ∷
+    replace 0 mixed ∷
+    len ∷
+    get 1 ∷
+    remove 1 ∷
+    insert 2 mixed ∷
+    replace 1 mixed ∷
+    get 1 ∷
+    remove 1 ∷
+    push mixed ∷
+    push (wide 9) ∷
+    (4 ∷ 0 ∷ 0 ∷ 0 ∷ 1 ∷ []) ∷
+    [])
 
 abbrev everyAnswer : List ℕ
 everyAnswer =
-    129 ∷ 129 ∷ (element (wide 7) ++ (131 ∷ (wide 2 ++ (got mixed 0 ++ (element mixed ++ (132 ∷ 2 ∷ 132 ∷ 2 ∷ 132 ∷ 2 ∷ 132 ∷ 2 ∷ 129 ∷ 129
-    ∷ 132 ∷ 2 ∷ []))))))
+    concat
+    (done ∷
+    done ∷
+    element (wide 7) ∷
+    lengthIs (wide 2) ∷
+    got mixed 0 ∷
+    element mixed ∷
+    refusal 2 ∷
+    refusal 2 ∷
+    refusal 2 ∷
+    refusal 2 ∷
+    done ∷
+    done ∷
+    refusal 2 ∷
+    [])
 
--- 1 to 32 pushed, and 32 times the answer that it is done
+-- 1 to 32 pushed
 abbrev pushed : List ℕ
 pushed = concat (map (λ x. push (wide x)) (from 1 32))
 
-abbrev done : List ℕ
-done = map (λ x. 129) (from 1 32)
+abbrev pushedAnswer : List ℕ
+pushedAnswer = concat (map (λ x. done) (from 1 32))
 
 unfoldable pub bytes : List Row
 unfolding from concat
 bytes =
-    runs 60 three 100 (ran 0 3 19 16) (129 ∷ (got (wide 7) 0 ++ (132 ∷ 2 ∷ []))) (7 ∷ []) ∷
-    runs 60 three 27 (ran 0 3 19 16) (129 ∷ (got (wide 7) 0 ++ (132 ∷ 2 ∷ []))) (7 ∷ []) ∷
-    runs 60 three 26 (ran 7 2 14 14) (129 ∷ got (wide 7) 0) (7 ∷ []) ∷
+    runs 60 three 100 (ran 0 3 19 16) threeAnswers (7 ∷ []) ∷
+    runs 60 three 27 (ran 0 3 19 16) threeAnswers (7 ∷ []) ∷
+    runs 60 three 26 (ran 7 2 14 14) (done ++ got (wide 7) 0) (7 ∷ []) ∷
     -- every kind of command; comparisons; refused for want of room
     runs 60 every 200 (ran 0 13 105 54) everyAnswer (mixedNumber ∷ mixedNumber ∷ 9 ∷ []) ∷
-    runs 3 (pushed ++ get 15) 100 (ran 0 33 293 45) (done ++ got (wide 16) 1) (from 1 32) ∷
-    runs 0 (push (wide 7) ++ (insert 0 (wide 7) ++ insert 1 (wide 7))) 100 (ran 0 3 35 6) (132 ∷ 3 ∷ 132 ∷ 3 ∷ 132 ∷ 2 ∷ []) [] ∷
+    runs 3 (pushed ++ get 15) 100 (ran 0 33 293 45) (pushedAnswer ++ got (wide 16) 1) (from 1 32) ∷
+    runs 0 (concat (push (wide 7) ∷ insert 0 (wide 7) ∷ insert 1 (wide 7) ∷ [])) 100 (ran 0 3 35 6) (concat (refusal 3 ∷ refusal 3 ∷ refusal 2 ∷ [])) [] ∷
     -- the end of the input; a kind that is unknown
     runs 1 [] 0 (ran 0 0 0 0) [] [] ∷
     runs 1 (0 ∷ []) 100 (ran 5 0 0 0) [] [] ∷
-    runs 1 (6 ∷ 7 ∷ small 0) 100 (ran 5 1 1 9) (131 ∷ wide 0) [] ∷
+    runs 1 (len ++ (7 ∷ small 0)) 100 (ran 5 1 1 9) (lengthIs (wide 0)) [] ∷
     runs 1 (255 ∷ []) 0 (ran 5 0 0 0) [] [] ∷
     -- a command cut short, by one byte of each kind
     runs 1 (1 ∷ (small 0 ++ (7 ∷ 0 ∷ 0 ∷ 0 ∷ 0 ∷ 0 ∷ 0 ∷ []))) 100 (ran 6 0 0 0) [] [] ∷
     runs 1 (2 ∷ 0 ∷ 0 ∷ 0 ∷ []) 100 (ran 6 0 0 0) [] [] ∷
     runs 1 (3 ∷ 7 ∷ 0 ∷ 0 ∷ 0 ∷ 0 ∷ 0 ∷ 0 ∷ []) 0 (ran 6 0 0 0) [] [] ∷
-    runs 1 (6 ∷ 4 ∷ 0 ∷ 0 ∷ 0 ∷ []) 100 (ran 6 1 1 9) (131 ∷ wide 0) [] ∷
+    runs 1 (len ++ (4 ∷ 0 ∷ 0 ∷ 0 ∷ [])) 100 (ran 6 1 1 9) (lengthIs (wide 0)) [] ∷
     runs 1 (5 ∷ (small 0 ++ (7 ∷ 0 ∷ 0 ∷ 0 ∷ 0 ∷ 0 ∷ 0 ∷ []))) 100 (ran 6 0 0 0) [] [] ∷
     -- 13 bytes of room for every answer, a short one too
-    runs 1 (6 ∷ []) 13 (ran 0 1 1 9) (131 ∷ wide 0) [] ∷
-    runs 1 (6 ∷ []) 12 (ran 7 0 0 0) [] [] ∷
-    runs 1 (push (wide 7) ++ (6 ∷ [])) 14 (ran 0 2 10 10) (129 ∷ 131 ∷ wide 1) (7 ∷ []) ∷
-    runs 1 (push (wide 7) ++ (6 ∷ [])) 13 (ran 7 1 9 1) (129 ∷ []) (7 ∷ []) ∷
+    runs 1 len 13 (ran 0 1 1 9) (lengthIs (wide 0)) [] ∷
+    runs 1 len 12 (ran 7 0 0 0) [] [] ∷
+    runs 1 (push (wide 7) ++ len) 14 (ran 0 2 10 10) (done ++ lengthIs (wide 1)) (7 ∷ []) ∷
+    runs 1 (push (wide 7) ++ len) 13 (ran 7 1 9 1) done (7 ∷ []) ∷
     []
