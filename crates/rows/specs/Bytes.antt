@@ -117,7 +117,8 @@ bytes =
     -- every kind of command; comparisons; refused for want of room
     runs 60 every 200 (ran 0 13 105 54) everyAnswer (mixedNumber ∷ mixedNumber ∷ 9 ∷ []) ∷
     runs 3 (pushed ++ get 15) 100 (ran 0 33 293 45) (pushedAnswer ++ got (wide 16) 1) (from 1 32) ∷
-    runs 0 (concat (push (wide 7) ∷ insert 0 (wide 7) ∷ insert 1 (wide 7) ∷ [])) 100 (ran 0 3 35 6) (concat (refusal 3 ∷ refusal 3 ∷ refusal 2 ∷ [])) [] ∷
+    runs 0 (concat (push (wide 7) ∷ insert 0 (wide 7) ∷ insert 1 (wide 7) ∷ [])) 100 (ran 0 3 35 6)
+    (concat (refusal 3 ∷ refusal 3 ∷ refusal 2 ∷ [])) [] ∷
     -- the end of the input; a kind that is unknown
     runs 1 [] 0 (ran 0 0 0 0) [] [] ∷
     runs 1 (0 ∷ []) 100 (ran 5 0 0 0) [] [] ∷
