@@ -5,6 +5,7 @@ use mathlib.Core.Logic.{_≢_, _⊎_, inl, inr}
 use Prim.Native.Nat.{ℕ, zero, suc, _+_, _-_, _≤_, _<_}
 use native.Mathlib.Nat.{add-zero, add-suc, suc-add}
 use native.Mathlib.Omega.{arith}
+use borrow.Rule.Slice.PartMut.{putMid}
 use lib.ListN.{length, getD, set, take, drop, length-set, length-drop, drop-of-length-le}
 use lib.Seq.{sets, sets-eq, set-comm, set-set, set-getD, getD-set-same, getD-set-other, drop-set-lt, drop-set-add, take-set-le}
 use lib.Seq.{getD-take, getD-drop, take-suc, drop-cons, length-take-le, take-at, drop-at, take-take, drop-drop}
@@ -117,3 +118,9 @@ run-run xs from n i m h = rw (← drop-drop) (go (drop from xs) n i h)
     go l zero (suc i) h = absurd (omega arith)
     go [] (suc n) (suc i) h = refl
     go (x ∷ l) (suc n) (suc i) h = go l n i (omega arith)
+
+-- ---- a part that is lent
+
+-- n words lent from `at` on that have come back as ys
+pub part-put : (w : List ℕ) (at n : ℕ) (ys : List ℕ) → at + n ≤ length w → length ys ≡ n → putMid at n w ys ≡ sets w at ys
+part-put w at n ys h l = rw (sets-eq ys w at (omega arith), append-assoc, ← l, drop-drop (length ys) at w)

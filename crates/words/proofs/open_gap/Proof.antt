@@ -1,58 +1,36 @@
--- `open_gap` meets its contract. Invariant: the words from j to `end` stand one place higher, and no other has changed.
--- Measure: j.
-use mathlib.Core.Path.{_≡_, refl}
+-- `open_gap` meets its contract: the words of the gap are shifted up in their own part.
+use mathlib.Core.Path.{_≡_}
 use mathlib.Core.List.{List, _∷_}
-use mathlib.Core.Logic.{inl}
-use Prim.Native.Nat.{ℕ, suc, _-_, _≤_, _<_}
-use native.Mathlib.Nat.{sub-self}
+use Prim.Native.Nat.{ℕ, _+_, _-_, _≤_}
+use native.Mathlib.Nat.{add-zero}
 use native.Mathlib.Omega.{arith}
-use lib.ListN.{length, getD, set, length-set}
+use borrow.Author.Needs.{needs}
+use borrow.Rule.Slice.PartMut.{putMid}
+use denote.Ref.{now}
+use lib.ListN.{length}
 use lib.Seq.{sets}
 use Rattle.words.specs.Words.{run}
-use Rattle.words.proofs.Laws.{set-sets, sets-outside, run-cons}
+use Rattle.words.proofs.Laws.{run-length, run-run, part-put}
 use Rattle.words.proofs.open_gap.Statement.{statement}
 use Rattle.words.proofs.open_gap.Tie as tie
 
--- k is the j after the turn
-turn : (w₀ w : List ℕ) (k j end : ℕ) → suc k ≡ j → j ≤ end → end < length w₀ → w ≡ sets w₀ (suc j) (run w₀ j (end - j))
-    → set w j (getD w k 0) ≡ sets w₀ (suc k) (run w₀ k (end - k))
-turn w₀ w k j end s l h e =
-    let n : end - k ≡ suc (end - j) = omega arith in
-    let below : j < suc j = omega arith in
-    rw (e, sets-outside w₀ (suc j) (run w₀ j (end - j)) k 0 (inl (omega arith)), n, run-cons w₀ k (end - j) (omega arith), s, set-sets)
+opened : (w : List ℕ) (at n m x : ℕ) → m + 1 ≡ n → at + n ≤ length w → (last : List ℕ)
+    → last ≡ x ∷ run (run w at n) 0 (length (run w at n) - 1) → putMid at n w last ≡ sets w at (x ∷ run w at m)
+opened w at n m x s room last e =
+    let k : length (run w at n) ≡ n = run-length w at n room in
+    let o : n - 1 ≡ m = omega arith in
+    let l : length (x ∷ run w at m) ≡ n = omega (arith, run-length w at m (omega arith)) in
+    let r : run (run w at n) 0 m ≡ run w at m = rw add-zero at (run-run w at n 0 m (omega arith)) in
+    rw (e, k, o, r) (part-put w at n (x ∷ run w at m) room l)
 
--- the word put into its gap
-filled : (w₀ w : List ℕ) (at n x : ℕ) → w ≡ sets w₀ (suc at) (run w₀ at n) → set w at x ≡ sets w₀ at (x ∷ run w₀ at n)
-filled w₀ w at n x e =
-    let below : at < suc at = omega arith in
-    rw (e, set-sets)
-
-abbrev Inv-loop : tie.InvT-loop
-Inv-loop w₀ at end x j₀ w j = (at ≤ j) × (j ≤ end) × (length w ≡ length w₀) × (w ≡ sets w₀ (suc j) (run w₀ j (end - j)))
-
-abbrev μ-loop : tie.MeasureT-loop
-μ-loop w₀ at end x j₀ w j = j
-
-loop-holds : tie.Need-loop-holds Inv-loop μ-loop
+returns : tie.Need-returns
 unfolding run
-loop-holds c = (omega arith, omega arith, refl, rw sub-self)
-
-loop-again : tie.Need-loop-again Inv-loop μ-loop
-loop-again c = (
-  omega arith,
-  omega arith,
-  simp length-set (omega arith),
-  turn _ _ _ _ _ (omega arith) (omega arith) (omega arith) (c .before .before .loop .inv .3),
-)
-
-returns : tie.Need-returns Inv-loop μ-loop
 returns c =
-    let e : c .before .loop .j ≡ c .before .before .args .at = omega arith in
-    filled _ _ _ _ _ (rw e at (c .before .loop .inv .3))
+    let a = c .before .before .before .before .before .args in
+    opened (now (a .w)) (a .at) (a .end + 1 - a .at) (a .end - a .at) (a .x) (omega arith) (omega arith) _ (c .before .before .shift-up .ensures)
 
 pub open-gap-spec : {M : Type 1} → statement M
 open-gap-spec =
     tie.close
-    (tie.spec Inv-loop μ-loop loop-holds (λ c. omega arith) (λ c. omega arith) (λ c. omega arith) (λ c. omega arith)
-    (λ c. omega arith) (λ c. omega arith) (λ c. omega arith) loop-again (λ c. omega arith) (λ c. omega arith)
-    (λ c. simp length-set (omega arith)) returns)
+    (tie.spec (λ c. search needs) (λ c. search needs) (λ c. search needs) (λ c. search needs) (λ c. search needs) (λ c κs. search needs)
+    (λ c. search needs) returns)
