@@ -66,7 +66,7 @@ pub fn get(pool: &[u64], known: Known, index: u64) -> Answer
     if len(pool, known) <= index {
         return refuse(2);
     }
-    let f = tree::get(pool, known.root, known.levels, index as usize);
+    let f = tree::look_up(pool, known.root, known.levels, index as usize);
     Answer {
         number: 0,
         value: f.element,

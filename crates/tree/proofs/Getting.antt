@@ -11,11 +11,11 @@ use Rattle.model.specs.Tree.{Tree, kid, size, find, atSeparator, get}
 use Rattle.model.specs.Fit.{Fit}
 use Rattle.model.proofs.Nodes.{held-kid, kid-size}
 use Rattle.model.proofs.Find.{Step, step, separator}
-use Rattle.model.proofs.Get.{get-separator, get-inside, get-law}
+use Rattle.model.proofs.Get.{get-separator, get-inside}
 use Rattle.model.proofs.Bounds.{levels-few}
 use Rattle.tree.specs.declared.Turn.{Turn}
 use Rattle.tree.specs.Stands.{Stands}
-use Rattle.tree.specs.Lookup.{Above, Turns, Has, HasElement}
+use Rattle.tree.specs.Lookup.{Above, Turns, Has, Counted, HasElement}
 use Rattle.tree.proofs.Standing.{nodeOf}
 
 -- ---- a tree that stands, and a child of it
@@ -45,12 +45,11 @@ abbrev pub leafHas : {w : List ℕ} {h id index : ℕ} → h ≡ 0 → Has w h i
 leafHas {h = h} e s =
     record { node = nodeOf h (s .stands .tree) (s .stands .here) (s .stands .at) (s .stands .fit .fit); below = leaf-below h e s }
 
-pub leaf-got : {w : List ℕ} {id index : ℕ} (h : ℕ) → h ≡ 0 → (s : Has w h id index) (x : ℕ)
-    → ((q : HasElement w id index) → x ≡ getD (q .node .elems) index 0)
-    → _≡_ {A = Found} (record { element = x; compared = 0 }) (get h (s .stands .tree) index)
+pub leaf-counted : {w : List ℕ} {id index : ℕ} (h : ℕ) → h ≡ 0 → (s : Has w h id index) (n x : ℕ)
+    → ((q : HasElement w id index) → x ≡ getD (q .node .elems) index 0) → Counted h (s .stands .tree) index n n x
 unfolding get
-leaf-got zero e s x E = ap (λ (y : ℕ). record { element = y; compared = 0 }) (E (leafHas e s))
-leaf-got (suc h) e s x E = absurd (omega arith)
+leaf-counted zero e s n x E = record { element = E (leafHas e s); compared = omega arith }
+leaf-counted (suc h) e s n x E = absurd (omega arith)
 
 -- ---- in a node with children, l + 1 inner levels
 
@@ -79,13 +78,14 @@ module _ {w : List ℕ} {id index l : ℕ} (s : Has w (suc l) id index) where
         below = rw (T above .child) (separator l t F index (s .below) (eqb-true (find l t index .sub) (size l (kid l t (find l t index .child))) at));
       }
 
-      sep-got : (x : ℕ) → ((q : HasElement w id (r .child)) → x ≡ getD (q .node .elems) (r .child) 0)
-          → _≡_ {A = Found} (record { element = x; compared = r .compared }) (get (suc l) t index)
-      sep-got x E =
-          ap₂ (λ (y n : ℕ). record { element = y; compared = n })
-          (E sep-has ∙ ap (λ (c : ℕ). getD (t .elems) c 0) (T above .child))
-          (T above .compared)
-          ∙ sym (get-separator l t index at)
+      sep-counted : (n x : ℕ) → ((q : HasElement w id (r .child)) → x ≡ getD (q .node .elems) (r .child) 0)
+          → Counted (suc l) t index n (n + r .compared) x
+      sep-counted n x E =
+          let g = get-separator l t index at in
+          record {
+            element = E sep-has ∙ rw (T above .child) (sym (ap (λ (f : Found). f .element) g));
+            compared = omega (arith, T above .compared, ap (λ (f : Found). f .compared) g);
+          }
 
     -- in a child
     module _ (e : r .separator ≡ false) where
@@ -100,20 +100,15 @@ module _ {w : List ℕ} {id index l : ℕ} (s : Has w (suc l) id index) where
             rw (T above .sub) (omega (arith, way .sub));
       }
 
-      below-got : (f : Found) → ((q : Has w l (r .id) (r .sub)) → f ≡ get l (q .stands .tree) (r .sub))
-          → _≡_ {A = Found} (record { element = f .element; compared = r .compared + f .compared }) (get (suc l) t index)
-      below-got f E =
-          let k : Tree l = kid l t (find l t index .child) in
-          let g : f ≡ get l k (find l t index .sub) = E below-has ∙ ap (get l k) (T above .sub) in
-          ap₂ (λ (q : Found) (n : ℕ). record { element = q .element; compared = n + q .compared }) g (T above .compared)
-          ∙ sym (get-inside l t index inside)
-
-      below-fits : (f : Found) → ((q : Has w l (r .id) (r .sub)) → f ≡ get l (q .stands .tree) (r .sub)) → r .compared + f .compared < 2 ^ 64
-      below-fits f E =
-          let q = below-has in
-          let k : Tree l = q .stands .tree in
-          let b : f .compared ≤ 32 * l = rw (E q) (get-law l k (q .stands .fit .fit) (r .sub) (q .below) .compared) in
-          omega (arith, T above .compared, way .compared, way .child, F .most, levels-few l k (q .stands .fit), q .stands .small)
+      below-counted : (n n′ x : ℕ) → ((q : Has w l (r .id) (r .sub)) → Counted l (q .stands .tree) (r .sub) (n + r .compared) n′ x)
+          → Counted (suc l) t index n n′ x
+      below-counted n n′ x E =
+          let g = get-inside l t index inside in
+          let C : Counted l (kid l t (find l t index .child)) (find l t index .sub) (n + r .compared) n′ x = rw (T above .sub) at (E below-has) in
+          record {
+            element = C .element ∙ sym (ap (λ (f : Found). f .element) g);
+            compared = omega (arith, C .compared, T above .compared, ap (λ (f : Found). f .compared) g);
+          }
 
 -- ---- the same for any levels that are not 0
 
@@ -130,11 +125,16 @@ module _ {w : List ℕ} {id index : ℕ} where
   has-separator zero n s r T e = absurd (n refl)
   has-separator (suc l) n s r T e = sep-has s r T e
 
-  pub got-separator : (h : ℕ) → (h ≡ 0 → ⊥) → (s : Has w h id index) (r : Turn) → Turned w id index r → r .separator ≡ true
-      → (x : ℕ) → ((q : HasElement w id (r .child)) → x ≡ getD (q .node .elems) (r .child) 0)
-      → _≡_ {A = Found} (record { element = x; compared = r .compared }) (get h (s .stands .tree) index)
-  got-separator zero n s r T e x E = absurd (n refl)
-  got-separator (suc l) n s r T e x E = sep-got s r T e x E
+  -- a node has at most 32 children to compare
+  pub few-compared : (h : ℕ) → (h ≡ 0 → ⊥) → Has w h id index → (r : Turn) → Turned w id index r → r .compared ≤ 32
+  few-compared zero n s r T = absurd (n refl)
+  few-compared (suc l) n s r T = omega (arith, T (above s) .compared, way s .compared, way s .child, F s .most)
+
+  pub separator-counted : (h : ℕ) → (h ≡ 0 → ⊥) → (s : Has w h id index) (r : Turn) → Turned w id index r → r .separator ≡ true
+      → (n x : ℕ) → ((q : HasElement w id (r .child)) → x ≡ getD (q .node .elems) (r .child) 0)
+      → Counted h (s .stands .tree) index n (n + r .compared) x
+  separator-counted zero z s r T e n x E = absurd (z refl)
+  separator-counted (suc l) z s r T e n x E = sep-counted s r T e n x E
 
   -- the call is made at l
   pub has-below : (h l : ℕ) → h ≡ suc l → Has w h id index → (r : Turn) → Turned w id index r → r .separator ≡ false
@@ -144,24 +144,19 @@ module _ {w : List ℕ} {id index : ℕ} where
       let q : h ≡ l = omega arith in
       subst (λ n. Has w n (r .id) (r .sub)) q (below-has s r T f)
 
-  module _ (h l : ℕ) (e : h ≡ suc l) (s : Has w h id index) (r : Turn) (T : Turned w id index r) (f : r .separator ≡ false) (g : Found)
-      (G : (q : Has w l (r .id) (r .sub)) → g ≡ get l (q .stands .tree) (r .sub)) where
-    pub got-below : _≡_ {A = Found} (record { element = g .element; compared = r .compared + g .compared }) (get h (s .stands .tree) index)
-    got-below = go h l e s G
-      where
-        go : (h l : ℕ) → h ≡ suc l → (s : Has w h id index) → ((q : Has w l (r .id) (r .sub)) → g ≡ get l (q .stands .tree) (r .sub))
-            → _≡_ {A = Found} (record { element = g .element; compared = r .compared + g .compared }) (get h (s .stands .tree) index)
-        go zero l e s G = absurd (omega arith)
-        go (suc h) l e s G =
-            let q : l ≡ h = omega arith in
-            below-got s r T f g (subst (λ n. (q : Has w n (r .id) (r .sub)) → g ≡ get n (q .stands .tree) (r .sub)) q G)
+  pub child-counted : (h l : ℕ) → h ≡ suc l → (s : Has w h id index) (r : Turn) → Turned w id index r → r .separator ≡ false → (n n′ x : ℕ)
+      → ((q : Has w l (r .id) (r .sub)) → Counted l (q .stands .tree) (r .sub) (n + r .compared) n′ x)
+      → Counted h (s .stands .tree) index n n′ x
+  child-counted zero l e s r T f n n′ x E = absurd (omega arith)
+  child-counted (suc h) l e s r T f n n′ x E =
+      let q : l ≡ h = omega arith in
+      below-counted s r T f n n′ x (subst (λ m. (q : Has w m (r .id) (r .sub)) → Counted m (q .stands .tree) (r .sub) (n + r .compared) n′ x) q E)
 
-    pub sum-fits : r .compared + g .compared < 2 ^ 64
-    sum-fits = go h l e s G
-      where
-        go : (h l : ℕ) → h ≡ suc l → (s : Has w h id index) → ((q : Has w l (r .id) (r .sub)) → g ≡ get l (q .stands .tree) (r .sub))
-            → r .compared + g .compared < 2 ^ 64
-        go zero l e s G = absurd (omega arith)
-        go (suc h) l e s G =
-            let q : l ≡ h = omega arith in
-            below-fits s r T f g (subst (λ n. (q : Has w n (r .id) (r .sub)) → g ≡ get n (q .stands .tree) (r .sub)) q G)
+-- ---- a whole lookup
+
+pub levels-fit : {w : List ℕ} {h id index : ℕ} → Has w h id index → 32 * h < 2 ^ 64
+levels-fit {h = h} s = omega (arith, levels-few h (s .stands .tree) (s .stands .fit), s .stands .small)
+
+pub counted-got : {h : ℕ} {t : Tree h} {index n x : ℕ} → Counted h t index 0 n x
+    → _≡_ {A = Found} (record { element = x; compared = n }) (get h t index)
+counted-got C = ap₂ (λ (y m : ℕ). record { element = y; compared = m }) (C .element) (omega (arith, C .compared))

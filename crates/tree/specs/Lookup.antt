@@ -1,7 +1,7 @@
 -- Looking for an index: what is asked of the pool, and what is found.
 use mathlib.Core.Path.{_≡_}
 use mathlib.Core.List.{List}
-use Prim.Native.Nat.{ℕ, suc, _≤_, _<_}
+use Prim.Native.Nat.{ℕ, suc, _+_, _≤_, _<_}
 use lib.ListN.{length, getD, set}
 use Rattle.model.specs.declared.Found.{Found}
 use Rattle.model.specs.declared.Stretch.{Stretch}
@@ -40,6 +40,11 @@ pub record Has (w : List ℕ) (h id index : ℕ) : Type 0 where
 -- what is found is what the model finds
 abbrev pub Got : List ℕ → ℕ → ℕ → ℕ → Found → Type 0
 Got w h id index r = (s : Has w h id index) → r ≡ get h (s .stands .tree) index
+
+-- the same of an element x and a count: what the model compares was added to n
+pub record Counted (h : ℕ) (t : Tree h) (index n n′ x : ℕ) : Type 0 where
+  pub element : x ≡ get h t index .element
+  pub compared : n′ ≡ n + get h t index .compared
 
 abbrev pub Spans : List ℕ → ℕ → ℕ → ℕ → Stretch → Type 0
 Spans w h id index r = (s : Has w h id index) → r ≡ stretch h (s .stands .tree) index

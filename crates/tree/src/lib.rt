@@ -1,7 +1,8 @@
 // Lookup and replacement in a tree that is known to stand in the pool.
 ghost use mathlib.Core.Path.{_≡_};
+ghost use Prim.Native.Nat.{_+_, _*_, _^_, _<_};
 ghost use lib.ListN.{getD};
-ghost use Rattle.tree.specs.Lookup.{Above, Turns, Has, Got, Spans, HasElement, Swapped, Replaced};
+ghost use Rattle.tree.specs.Lookup.{Above, Turns, Has, Got, Counted, Spans, HasElement, Swapped, Replaced};
 use model::Found;
 use model::Stretch;
 use pool::ELEMS;
@@ -65,31 +66,32 @@ pub fn way_to(pool: &[u64], id: usize, index: usize) -> Turn
     }
 }
 
+// The element at an index. The child lengths compared on the way are added to `compared`.
+fn get(pool: &&[u64], id: usize, levels: usize, index: usize, compared: &mut usize) -> u64
+    requires { ⌜ Has (now (now pool)) levels id index ⌝ }
+    requires { ⌜ now compared + 32 * levels < 2 ^ 64 ⌝ }
+    ensures { λ r. ⌜ ((s : Has (now (now (pool .entry))) levels id index)
+        → Counted levels (s .stands .tree) index (now (compared .entry)) (now (compared .exit)) r) ⌝ }
+{
+    if levels == 0 {
+        return element(*pool, id, index);
+    }
+    let t = way_to(*pool, id, index);
+    *compared += t.compared;
+    if t.separator {
+        return element(*pool, id, t.child);
+    }
+    get(pool, t.id, levels - 1, t.sub, compared)
+}
+
 // The element at an index, and the child lengths compared on the way to it.
-pub fn get(pool: &[u64], id: usize, levels: usize, index: usize) -> Found
+pub fn look_up(pool: &[u64], id: usize, levels: usize, index: usize) -> Found
     requires { ⌜ Has (now pool) levels id index ⌝ }
     ensures { λ r. ⌜ Got (now (pool .entry)) levels id index r ⌝ }
 {
-    if levels == 0 {
-        let x = element(pool, id, index);
-        return Found {
-            element: x,
-            compared: 0,
-        };
-    }
-    let t = way_to(pool, id, index);
-    if t.separator {
-        let x = element(pool, id, t.child);
-        return Found {
-            element: x,
-            compared: t.compared,
-        };
-    }
-    let below = get(pool, t.id, levels - 1, t.sub);
-    Found {
-        element: below.element,
-        compared: t.compared + below.compared,
-    }
+    let mut compared = 0;
+    let element = get(&pool, id, levels, index, &mut compared);
+    Found { element, compared }
 }
 
 // Where the element at an index stands, with those after it in the same leaf; an inner node's by itself.

@@ -54,7 +54,7 @@ pub fn skip(pool: &[u64], known: Known, position: u64, m: u64) -> Walked
         };
     }
     let i = position + m;
-    let f = tree::get(pool, known.root, known.levels, i as usize);
+    let f = tree::look_up(pool, known.root, known.levels, i as usize);
     Walked {
         number: 0,
         element: f.element,
@@ -73,8 +73,8 @@ pub fn equal(a: &[u64], in_a: Known, b: &[u64], in_b: Known) -> Answer
     }
     let mut i = 0;
     while i < n {
-        let x = tree::get(a, in_a.root, in_a.levels, i as usize);
-        let y = tree::get(b, in_b.root, in_b.levels, i as usize);
+        let x = tree::look_up(a, in_a.root, in_a.levels, i as usize);
+        let y = tree::look_up(b, in_b.root, in_b.levels, i as usize);
         if x.element != y.element {
             return give(0);
         }

@@ -20,14 +20,14 @@ returns : tie.Need-returns
 returns c s =
     c .refuse .ensures ∙ sym (get-beyond (s .bag) _ (omega (arith, c .before .before .len .ensures s)))
 
-get-requires : tie.Need-get-requires
-get-requires c κs = root-has (c .before .before .before .pre) _ (below c (c .before .before .before .pre))
+look-up-requires : tie.Need-look-up-requires
+look-up-requires c κs = root-has (c .before .before .before .pre) _ (below c (c .before .before .before .pre))
 
 returns-2 : tie.Need-returns-2
 returns-2 c s =
     let l = below (c .before) s in
-    ap (λ (f : Found). record { number = 0; value = f .element; compared = f .compared }) (root-got s _ l _ (c .get .ensures))
+    ap (λ (f : Found). record { number = 0; value = f .element; compared = f .compared }) (root-got s _ l _ (c .look-up .ensures))
     ∙ sym (get-done (s .bag) _ l)
 
 pub get-spec : {M : Type 1} → statement M
-get-spec = tie.close (tie.spec (λ c κs. search needs) (λ c κs. search needs) returns get-requires returns-2)
+get-spec = tie.close (tie.spec (λ c κs. search needs) (λ c κs. search needs) returns look-up-requires returns-2)

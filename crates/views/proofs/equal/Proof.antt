@@ -68,8 +68,8 @@ returns-2 : tie.Need-returns-2 Inv-loop μ-loop
 returns-2 c s t =
     let u = c .before .before .before .before .before .before in
     let A = u .before .loop .inv .1 in
-    let F = c .before .before .before .before .before .get .ensures in
-    let G = c .before .before .before .before .get2 .ensures in
+    let F = c .before .before .before .before .before .look-up .ensures in
+    let G = c .before .before .before .before .look-up2 .ensures in
     c .give2 .ensures
     ∙ sym
     (equal-differ (s .bag) (t .bag)
@@ -80,8 +80,8 @@ loop-again : tie.Need-loop-again Inv-loop μ-loop
 loop-again c =
     let u = c .before .before .before .before .before in (
       omega arith,
-      further (u .before .loop .inv .1) (omega arith) _ _ (c .before .before .before .before .get .ensures)
-          (c .before .before .before .get2 .ensures) (c .if2 .left),
+      further (u .before .loop .inv .1) (omega arith) _ _ (c .before .before .before .before .look-up .ensures)
+          (c .before .before .before .look-up2 .ensures) (c .if2 .left),
     )
 
 returns-3 : tie.Need-returns-3 Inv-loop μ-loop

@@ -30,7 +30,7 @@ returns-3 : tie.Need-returns-3
 returns-3 c s =
     let i = below (c .before) s in
     let b = c .before .before .before .before .before .args in
-    ap (λ (f : Found). record { number = 0; element = f .element; position = b .position + b .m + 1 }) (root-got s _ i _ (c .get .ensures))
+    ap (λ (f : Found). record { number = 0; element = f .element; position = b .position + b .m + 1 }) (root-got s _ i _ (c .look-up .ensures))
     ∙ sym (skip-done (s .bag) _ _ (omega arith))
 
 pub skip-spec : {M : Type 1} → statement M
