@@ -3,13 +3,14 @@ use mathlib.Core.Path.{_≡_, refl, sym, ap, subst, _∙_}
 use mathlib.Core.Bool.{Bool, true, false}
 use mathlib.Core.List.{List, []}
 use mathlib.Core.Logic.{_≢_}
-use Prim.Native.Nat.{ℕ, zero, suc, _+_, _≤_, _<_}
+use Prim.Native.Nat.{ℕ, zero, suc, _+_, _-_, _≤_, _<_}
 use native.Mathlib.Omega.{arith}
 use lib.Dec.{leb}
 use lib.ListN.{length, getD, drop}
 use Rattle.lists.specs.Lists.{insertAt}
 use Rattle.lists.proofs.Edits.{length-insertAt}
-use Rattle.model.specs.Tree.{Tree, size, find}
+use Rattle.model.specs.declared.Place.{Place}
+use Rattle.model.specs.Tree.{Tree, kid, size, find}
 use Rattle.model.specs.Fit.{Fit}
 use Rattle.model.specs.Insert.{isFull, splitChild, Grown, insertNonFull, neededBelow}
 use Rattle.model.proofs.Nodes.{most}
@@ -17,21 +18,84 @@ use Rattle.model.proofs.Find.{Step, into, step}
 use Rattle.model.proofs.Insert.{full, Inserted, insert-law}
 use Rattle.model.proofs.Bounds.{needed-below}
 use Rattle.pool.specs.Layout.{nodeWords, withBlock, nodeBlock, kidIds, rootBlock}
+use Rattle.pool.specs.Parts.{Inside, lengthAt, kidAt}
 use Rattle.pool.proofs.Blocks.{most-kids, length-nodeBlock, length-rootBlock}
 use Rattle.pool.proofs.Frame.{wrote, wrote-same}
 use Rattle.tree.specs.declared.Turn.{Turn}
 use Rattle.tree.specs.Node.{Node}
 use Rattle.tree.specs.Stands.{Owns, Reshaped}
 use Rattle.tree.specs.Lookup.{Above}
-use Rattle.tree.proofs.Standing.{nodeOf}
+use Rattle.tree.proofs.Standing.{nodeOf, node-size}
 use Rattle.tree.proofs.Getting.{Turned}
-use Rattle.tree.proofs.Edits.{node-untouched, root-reshaped, owns-kid, root-apart, kid-reshaped, reshaped-none, owns-after, reshaped-both, owns-above}
+use Rattle.tree.proofs.Edits.{node-untouched, root-reshaped, owns-kid, root-apart, kid-reshaped, kid-readable, child-is}
+use Rattle.tree.proofs.Edits.{reshaped-none, owns-after, reshaped-both, owns-above}
 use Rattle.insertion.specs.Nodes.{HasRoom, Counts}
 use Rattle.split.specs.Ready.{SplitReady}
 use Rattle.insertion.specs.declared.Entry.{Entry}
 use Rattle.insertion.specs.Ready.{InsertReady}
 use Rattle.insertion.specs.Steps.{Grew, RoomReady, roomed, MakesRoom, InsertsBelow}
+use Rattle.insertion.proofs.Ways.{Halved, halved}
 use Rattle.insertion.proofs.Rooms.{insert-id, insert-size, with-block, Roomed, roomed-not, roomed-full, room-law}
+
+-- ---- in a leaf
+
+leaf-upto : {w : List ℕ} {id index : ℕ} (i : InsertReady w 0 id index) → index ≤ length (i .tree .elems)
+unfolding size
+leaf-upto i = i .upto
+
+abbrev leaf-takes : {w : List ℕ} {id index : ℕ} → InsertReady w 0 id index → HasRoom w id index
+leaf-takes i = record {
+  node = nodeOf 0 (i .tree) (i .here) (i .owns .at) (i .owns .fit);
+  place = leaf-upto i;
+  room = i .room;
+  small = i .owns .small;
+}
+
+leaf-block : (t : Tree 0) (es : List ℕ) → length es ≡ length (t .elems) + 1
+    → nodeBlock (size 0 t + 1) es (kidIds 0 t) ≡ rootBlock 0 (record { id = t .id; elems = es; kids = t .kids })
+unfolding rootBlock size kidIds
+leaf-block t es l = ap (λ (n : ℕ). nodeBlock n es []) (sym l)
+
+leaf-inserted : {w w′ : List ℕ} {id index : ℕ} (i : InsertReady w 0 id index) (x : ℕ) → ((s : HasRoom w id index)
+    → w′ ≡ withBlock w id (nodeBlock (s .node .size + 1) (insertAt (s .node .elems) index x) (s .node .kids)))
+    → InsertsBelow w w′ 0 (i .tree) (i .free) index x 0
+unfolding insertNonFull neededBelow
+leaf-inserted {w} {w′} {id} {index} i x e =
+    let t : Tree 0 = i .tree in
+    let es : List ℕ = insertAt (t .elems) index x in
+    let s : Tree 0 = record { id = t .id; elems = es; kids = t .kids } in
+    let l : length es ≡ length (t .elems) + 1 = length-insertAt (t .elems) index x (leaf-upto i) in
+    let F : Fit 0 s = record { most = omega (arith, i .room) } in
+    record {
+      grew = root-reshaped 0 t es (i .owns) (wrote-same (i .here) refl
+          (wrote (e (leaf-takes i) ∙ ap (withBlock w id) (leaf-block t es l)) (leaf-takes i .node .stored .inside) (length-rootBlock 0 s F)));
+      taken = refl;
+    }
+
+-- ---- in a node with children, where there is room
+
+module _ {w w₁ : List ℕ} {id index h : ℕ} (i : InsertReady w (suc h) id index)
+    (R : Grew w w₁ (suc h) (i .tree) (i .free) (roomed h (i .tree) index (i .free))) where
+  abbrev s₁ : Tree (suc h)
+  s₁ = roomed h (i .tree) index (i .free) .tree
+
+  abbrev g₁ : List ℕ
+  g₁ = roomed h (i .tree) index (i .free) .free
+
+  pub laws : Roomed h (i .tree) index (i .free) s₁ g₁
+  laws = room-law h (i .tree) index (i .owns .fit) (i .room) (i .upto) (i .free) (i .enough)
+
+  pub owns₁ : Owns w₁ (suc h) s₁ g₁
+  owns₁ = owns-after (i .owns) R (laws .same)
+
+  pub upto₁ : index ≤ size (suc h) s₁
+  upto₁ = omega (arith, i .upto, laws .same .sized)
+
+  pub way₁ : Step h s₁ index
+  way₁ = step h s₁ (owns₁ .fit) index upto₁
+
+  pub place₁ : find h s₁ index .child < length (s₁ .kids)
+  place₁ = omega (arith, way₁ .child, owns₁ .fit .one-more)
 
 -- ---- the way from a node, and room made there
 
@@ -91,77 +155,64 @@ module _ {w : List ℕ} {id index h : ℕ} (i : InsertReady w (suc h) id index) 
           some = some-free;
         }
 
-        pub split-grew : (w′ : List ℕ) → ((q : SplitReady w id (r .child))
-            → Reshaped w w′ (suc (q .height)) (q .tree) (q .free) (splitChild (q .height) (q .tree) (r .child) (getD (q .free) 0 0)) (drop 1 (q .free)))
-            → Grew w w′ (suc h) t f (roomed h t index f)
-        split-grew w′ S = rw (roomed-full h t index f (is-full-kid ∙ e), ← (T ready-above .child)) (S split-ready)
+        -- after the split the index goes into a half
+        module _ (w′ : List ℕ) (S : (q : SplitReady w id (r .child)) → Reshaped w w′ (suc (q .height)) (q .tree) (q .free)
+            (splitChild (q .height) (q .tree) (r .child) (getD (q .free) 0 0)) (drop 1 (q .free))) where
+          abbrev child : ℕ
+          child = find h t index .child
 
--- ---- in a leaf
+          abbrev parted : Tree (suc h)
+          parted = splitChild h t child (getD f 0 0)
 
-leaf-upto : {w : List ℕ} {id index : ℕ} (i : InsertReady w 0 id index) → index ≤ length (i .tree .elems)
-unfolding size
-leaf-upto i = i .upto
+          is-split : roomed h t index f ≡ record { tree = parted; free = drop 1 f }
+          is-split = roomed-full h t index f (is-full-kid ∙ e)
 
-abbrev leaf-takes : {w : List ℕ} {id index : ℕ} → InsertReady w 0 id index → HasRoom w id index
-leaf-takes i = record {
-  node = nodeOf 0 (i .tree) (i .here) (i .owns .at) (i .owns .fit);
-  place = leaf-upto i;
-  room = i .room;
-  small = i .owns .small;
-}
+          split-grew : Grew w w′ (suc h) t f (roomed h t index f)
+          split-grew = rw (is-split, ← (T ready-above .child)) (S split-ready)
 
-leaf-block : (t : Tree 0) (es : List ℕ) → length es ≡ length (t .elems) + 1
-    → nodeBlock (size 0 t + 1) es (kidIds 0 t) ≡ rootBlock 0 (record { id = t .id; elems = es; kids = t .kids })
-unfolding rootBlock size kidIds
-leaf-block t es l = ap (λ (n : ℕ). nodeBlock n es []) (sym l)
+          split-owns : Owns w′ (suc h) parted (drop 1 f)
+          split-owns = subst (λ (g : Grown (Tree (suc h))). Owns w′ (suc h) (g .tree) (g .free)) is-split (owns₁ i split-grew)
 
-leaf-inserted : {w w′ : List ℕ} {id index : ℕ} (i : InsertReady w 0 id index) (x : ℕ) → ((s : HasRoom w id index)
-    → w′ ≡ withBlock w id (nodeBlock (s .node .size + 1) (insertAt (s .node .elems) index x) (s .node .kids)))
-    → InsertsBelow w w′ 0 (i .tree) (i .free) index x 0
-unfolding insertNonFull neededBelow
-leaf-inserted {w} {w′} {id} {index} i x e =
-    let t : Tree 0 = i .tree in
-    let es : List ℕ = insertAt (t .elems) index x in
-    let s : Tree 0 = record { id = t .id; elems = es; kids = t .kids } in
-    let l : length es ≡ length (t .elems) + 1 = length-insertAt (t .elems) index x (leaf-upto i) in
-    let F : Fit 0 s = record { most = omega (arith, i .room) } in
-    record {
-      grew = root-reshaped 0 t es (i .owns) (wrote-same (i .here) refl
-          (wrote (e (leaf-takes i) ∙ ap (withBlock w id) (leaf-block t es l)) (leaf-takes i .node .stored .inside) (length-rootBlock 0 s F)));
-      taken = refl;
-    }
+          split-here : parted .id ≡ id
+          unfolding splitChild
+          split-here = i .here
 
--- ---- in a node with children, where there is room
+          H : Halved h t index parted
+          H = halved h t (i .owns .fit) (i .room) index (getD f 0 0) (i .upto) (rw (← (T ready-above .child)) (split-ready .full))
 
-module _ {w w₁ : List ℕ} {id index h : ℕ} (i : InsertReady w (suc h) id index)
-    (R : Grew w w₁ (suc h) (i .tree) (i .free) (roomed h (i .tree) index (i .free))) where
-  abbrev s₁ : Tree (suc h)
-  s₁ = roomed h (i .tree) index (i .free) .tree
+          half : Owns w′ h (kid h parted child) (drop 1 f)
+          half = owns-kid split-owns child (omega (arith, H .two))
 
-  abbrev g₁ : List ℕ
-  g₁ = roomed h (i .tree) index (i .free) .free
+          half-here : kid h parted child .id ≡ r .id
+          half-here = H .id ∙ sym (T ready-above .id)
 
-  pub laws : Roomed h (i .tree) index (i .free) s₁ g₁
-  laws = room-law h (i .tree) index (i .owns .fit) (i .room) (i .upto) (i .free) (i .enough)
+          pub half-inside : Inside w′ (r .id)
+          half-inside = subst (Inside w′) half-here (half .at .here .inside)
 
-  pub owns₁ : Owns w₁ (suc h) s₁ g₁
-  owns₁ = owns-after (i .owns) R (laws .same)
+          pub right-readable : Inside w′ id × (r .child + 1 < 32)
+          right-readable = rw (T ready-above .child) (kid-readable split-owns split-here (H .two))
 
-  pub upto₁ : index ≤ size (suc h) s₁
-  upto₁ = omega (arith, i .upto, laws .same .sized)
+          room-made : (p : Place) (k : ℕ) → find h parted index ≡ p → k ≡ kid h parted (p .child) .id
+              → MakesRoom w w′ h t f index (record { id = k; sub = p .sub; taken = 1 })
+          room-made p k g d =
+              record { grew = split-grew; id = rw (is-split, g) d; sub = rw (is-split, g) refl; taken = rw (is-full-kid ∙ e) }
 
-  abbrev pub room-above : Above w₁ id index
-  room-above = owns-above owns₁ (laws .id ∙ i .here) index upto₁
+          module _ (n : ℕ) (en : n ≡ lengthAt w′ (r .id)) where
+            half-size : n ≡ size h (kid h parted child)
+            half-size = en ∙ node-size (nodeOf h (kid h parted child) half-here (half .at) (half .fit))
 
-  pub way₁ : Step h s₁ index
-  way₁ = step h s₁ (owns₁ .fit) index upto₁
+            pub left-made : r .sub ≤ n → MakesRoom w w′ h t f index (record { id = r .id; sub = r .sub; taken = 1 })
+            left-made l =
+                let d = T ready-above .sub in
+                rw d (room-made _ (r .id) (H .left (omega (arith, half-size))) (sym half-here))
 
-  pub place₁ : find h s₁ index .child < length (s₁ .kids)
-  place₁ = omega (arith, way₁ .child, owns₁ .fit .one-more)
-
-  pub room-made : (r : Turn) → Turned w₁ id index r → isFull h (into h (i .tree) index) ≡ true
-      → MakesRoom w w₁ h (i .tree) (i .free) index (record { id = r .id; sub = r .sub; taken = 1 })
-  room-made r T e = record { grew = R; id = T room-above .id; sub = T room-above .sub; taken = rw e }
+            pub right-made : n < r .sub → (k : ℕ) → k ≡ kidAt w′ id (r .child + 1)
+                → MakesRoom w w′ h t f index (record { id = k; sub = r .sub - n - 1; taken = 1 })
+            right-made l k ek =
+                let d = T ready-above .sub in
+                rw (d, half-size)
+                (room-made _ k (H .right (omega (arith, half-size)))
+                (sym (child-is split-owns split-here (H .two) k (rw (← (T ready-above .child)) ek))))
 
 -- ---- and below it
 

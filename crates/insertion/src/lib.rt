@@ -7,6 +7,7 @@ ghost use Rattle.lists.specs.Lists.{insertAt};
 ghost use Rattle.model.specs.Insert.{neededBelow, needed as neededFor};
 ghost use Rattle.pool.specs.Layout.{nodeBlock, withBlock};
 ghost use Rattle.tree.specs.Node.{Node};
+ghost use Rattle.tree.specs.Lookup.{Above, Turns};
 ghost use Rattle.insertion.specs.Nodes.{HasRoom, Counts};
 ghost use Rattle.insertion.specs.Ready.{InsertReady, BagReady, Inserts};
 ghost use Rattle.insertion.specs.Steps.{RoomReady, MakesRoom, InsertsBelow, Upto};
@@ -15,6 +16,7 @@ use pool::ELEMS;
 use pool::LENGTH;
 use pool::NODE_WORDS;
 use tree::Known;
+use tree::Turn;
 
 // Whether an insertion was done, and what is known of the bag then.
 pub struct Placed {
@@ -62,26 +64,54 @@ fn lengthen(pool: &mut [u64], k: usize)
     pool[a + LENGTH] += 1;
 }
 
-// The child that the index goes into, with room in it: if it is full, it is split, and the search is made again.
+// The way that an index goes from node id, as `tree::way_to` finds it. One behind all elements goes to the last child: that is not searched for.
+fn way_in(pool: &[u64], id: usize, index: usize) -> Turn
+    requires { ⌜ Above (now pool) id index ⌝ }
+    ensures { λ r. ⌜ ((s : Above (now (pool .entry)) id index) → Turns (s .height) (s .tree) index r) ⌝ }
+{
+    if index < pool::length_at(pool, id) {
+        return tree::way_to(pool, id, index);
+    }
+    let child = pool::count_at(pool, id);
+    let k = pool::kid_at(pool, id, child);
+    let sub = pool::length_at(pool, k);
+    Turn {
+        child,
+        sub,
+        compared: child + 1,
+        id: k,
+        separator: true,
+    }
+}
+
+// The child that the index goes into, with room in it: a full one is split, and the index goes into its left half, or into the right one.
 fn make_room(pool: &mut [u64], id: usize, index: usize) -> Entry
     requires { ⌜ RoomReady (now pool) id index ⌝ }
     ensures { λ r. ⌜ ((q : RoomReady (now (pool .entry)) id index)
         → MakesRoom (now (pool .entry)) (now (pool .exit)) (q .height) (q .ready .tree) (q .ready .free) index r) ⌝ }
 {
-    let t = tree::way_to(pool, id, index);
-    if is_full(pool, t.id) {
-        split::split_child(pool, id, t.child);
-        let t = tree::way_to(pool, id, index);
+    let t = way_in(pool, id, index);
+    if !is_full(pool, t.id) {
+        return Entry {
+            id: t.id,
+            sub: t.sub,
+            taken: 0,
+        };
+    }
+    split::split_child(pool, id, t.child);
+    let n = pool::length_at(pool, t.id);
+    if t.sub <= n {
         return Entry {
             id: t.id,
             sub: t.sub,
             taken: 1,
         };
     }
+    let right = pool::kid_at(pool, id, t.child + 1);
     Entry {
-        id: t.id,
-        sub: t.sub,
-        taken: 0,
+        id: right,
+        sub: t.sub - n - 1,
+        taken: 1,
     }
 }
 
@@ -115,7 +145,7 @@ fn needed_below(pool: &[u64], id: usize, levels: usize, index: usize) -> usize
     if levels == 0 {
         return 0;
     }
-    let t = tree::way_to(pool, id, index);
+    let t = way_in(pool, id, index);
     let below = needed_below(pool, t.id, levels - 1, t.sub);
     if is_full(pool, t.id) {
         return 1 + below;
