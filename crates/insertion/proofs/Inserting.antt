@@ -82,19 +82,16 @@ module _ {w w₁ : List ℕ} {id index h : ℕ} (i : InsertReady w (suc h) id in
   abbrev g₁ : List ℕ
   g₁ = roomed h (i .tree) index (i .free) .free
 
-  pub laws : Roomed h (i .tree) index (i .free) s₁ g₁
+  laws : Roomed h (i .tree) index (i .free) s₁ g₁
   laws = room-law h (i .tree) index (i .owns .fit) (i .room) (i .upto) (i .free) (i .enough)
 
-  pub owns₁ : Owns w₁ (suc h) s₁ g₁
+  owns₁ : Owns w₁ (suc h) s₁ g₁
   owns₁ = owns-after (i .owns) R (laws .same)
 
-  pub upto₁ : index ≤ size (suc h) s₁
-  upto₁ = omega (arith, i .upto, laws .same .sized)
+  way₁ : Step h s₁ index
+  way₁ = step h s₁ (owns₁ .fit) index (omega (arith, i .upto, laws .same .sized))
 
-  pub way₁ : Step h s₁ index
-  way₁ = step h s₁ (owns₁ .fit) index upto₁
-
-  pub place₁ : find h s₁ index .child < length (s₁ .kids)
+  place₁ : find h s₁ index .child < length (s₁ .kids)
   place₁ = omega (arith, way₁ .child, owns₁ .fit .one-more)
 
 -- ---- the way from a node, and room made there
@@ -177,7 +174,7 @@ module _ {w : List ℕ} {id index h : ℕ} (i : InsertReady w (suc h) id index) 
           unfolding splitChild
           split-here = i .here
 
-          H : Halved h t index parted
+          H : Halved h t (find h t index) parted index
           H = halved h t (i .owns .fit) (i .room) index (getD f 0 0) (i .upto) (rw (← (T ready-above .child)) (split-ready .full))
 
           half : Owns w′ h (kid h parted child) (drop 1 f)

@@ -1,5 +1,5 @@
 -- Where an index goes without a search: from a node's end, and after the child that it went into was split.
-use mathlib.Core.Path.{_≡_, refl, sym, ap, subst, _∙_}
+use mathlib.Core.Path.{_≡_, refl, sym, ap, _∙_}
 use mathlib.Core.Bool.{true}
 use mathlib.Core.List.{List, [], _∷_}
 use Prim.Native.Nat.{ℕ, suc, _+_, _-_, _≤_, _<_}
@@ -8,6 +8,7 @@ use borrow.Author.Tests.{eq-eqb}
 use lib.ListN.{length, drop, getD, drop-of-length-le}
 use Rattle.lists.specs.Lists.{sum, insertAt}
 use Rattle.lists.proofs.Sums.{total, total-at}
+use Rattle.model.specs.declared.Place.{Place}
 use Rattle.model.specs.Tree.{Tree, kid, none, size, find, before}
 use Rattle.model.specs.Fit.{Fit}
 use Rattle.model.specs.Insert.{splitChild}
@@ -81,16 +82,16 @@ module _ {w : List ℕ} {id index : ℕ} (s : Above w id index) where
 
 -- ---- the full child that index i goes into was split
 
--- in s the index goes into the left half, or into the right one behind it
-pub record Halved (h : ℕ) (t : Tree (suc h)) (i : ℕ) (s : Tree (suc h)) : Type 0 where
-  pub id : kid h s (find h t i .child) .id ≡ into h t i .id
-  pub two : find h t i .child + 1 < length (s .kids)
-  pub left : find h t i .sub ≤ size h (kid h s (find h t i .child)) → find h s i ≡ place (find h t i .child) (find h t i .sub)
-  pub right : size h (kid h s (find h t i .child)) < find h t i .sub
-      → find h s i ≡ place (find h t i .child + 1) (find h t i .sub - size h (kid h s (find h t i .child)) - 1)
+-- p was its place in t; in s it goes into the left half, or into the right one behind it
+pub record Halved (h : ℕ) (t : Tree (suc h)) (p : Place) (s : Tree (suc h)) (i : ℕ) : Type 0 where
+  pub id : kid h s (p .child) .id ≡ kid h t (p .child) .id
+  pub two : p .child + 1 < length (s .kids)
+  pub left : p .sub ≤ size h (kid h s (p .child)) → find h s i ≡ place (p .child) (p .sub)
+  pub right : size h (kid h s (p .child)) < p .sub
+      → find h s i ≡ place (p .child + 1) (p .sub - size h (kid h s (p .child)) - 1)
 
 pub halved : (h : ℕ) (t : Tree (suc h)) → Fit (suc h) t → length (t .elems) < 31 → (i a : ℕ) → i ≤ size (suc h) t
-    → length (into h t i .elems) ≡ 31 → Halved h t i (splitChild h t (find h t i .child) a)
+    → length (into h t i .elems) ≡ 31 → Halved h t (find h t i) (splitChild h t (find h t i .child) a) i
 unfolding splitChild insertAt
 halved h t F r i a m full =
     let w = step h t F i m in
