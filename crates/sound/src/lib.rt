@@ -29,6 +29,9 @@ ghost use Rattle.sound.specs.Check.{Trees, Chains, Checks};
 // The words of marks that the largest pool asks for.
 const MARK_WORDS: usize = MOST_NODES / marks::WORD_MARKS;
 
+// Words that are looked at together: a number that the compiler knows.
+const STEP: usize = 16;
+
 // What the check says: 01's number, and of a sound pool the inner levels of its tree and its free nodes.
 pub struct Checked {
     pub number: u64,
@@ -67,6 +70,23 @@ fn zeros_at(pool: &[u64], k: usize, from: usize, to: usize) -> bool
     zeros(&pool[a..a + NODE_WORDS], from, to)
 }
 
+// Whether the words of a leaf from `from` on are 0: the element slots in steps of one length, then the child slots and the link.
+// The last step may reach into the child slots, which are 0 in a leaf as well.
+fn rest_zeros(pool: &[u64], k: usize, from: usize) -> bool
+    requires { ⌜ Inside (now pool) k ⌝ }
+    requires { ⌜ from ≤ 33 ⌝ }
+    ensures { λ r. ⌜ Decides r (Clear (block (now (pool .entry)) k) from nodeWords) ⌝ }
+{
+    let mut i = from;
+    while i < KIDS {
+        if !zeros_at(pool, k, i, i + STEP) {
+            return false;
+        }
+        i += STEP;
+    }
+    zeros_at(pool, k, KIDS, NODE_WORDS)
+}
+
 // ---- the second pass: the words of the tree's nodes
 
 // Whether the length of an inner node is that of its elements and its children. What is left of it falls, so that no sum can wrap.
@@ -101,7 +121,7 @@ fn filled(pool: &[u64], k: usize) -> bool
 {
     let n = count_at(pool, k);
     if leaf_at(pool, k) {
-        return length_at(pool, k) == n && zeros_at(pool, k, ELEMS + n, NODE_WORDS);
+        return length_at(pool, k) == n && rest_zeros(pool, k, ELEMS + n);
     }
     if !zeros_at(pool, k, ELEMS + n, KIDS) {
         return false;
@@ -161,6 +181,8 @@ fn chain(pool: &[u64], p: usize, marks: &mut [u64]) -> Part
         if p < k {
             return Part::Wrong;
         }
+        // The link is read first, so that the next node can be fetched while this one is looked at.
+        let next = pool[start_of(k) + LINK] as usize;
         let new = claim(marks, k);
         if !new {
             return Part::Wrong;
@@ -168,7 +190,7 @@ fn chain(pool: &[u64], p: usize, marks: &mut [u64]) -> Part
         if !zeros_at(pool, k, 0, LINK) {
             return Part::Wrong;
         }
-        k = pool[start_of(k) + LINK] as usize;
+        k = next;
         n += 1;
     }
     Part::Right(n)

@@ -10,7 +10,7 @@ returns : tie.Need-returns
 returns c =
     let d = c .before .before .before .before in
     leaf-filled _ _ (d .before .before .before .pre) (eqb-true _ _ (sym (d .leaf-at .ensures) ∙ c .before .before .before .if1 .taken)) (omega arith)
-    (rw (d .before .count-at .ensures) at (c .zeros-at .ensures))
+    (rw (d .before .count-at .ensures) at (c .rest-zeros .ensures))
 
 returns-2 : tie.Need-returns-2
 returns-2 c =
@@ -23,14 +23,14 @@ returns-2 c =
 returns-3 : tie.Need-returns-3
 returns-3 c =
     let d = c .before .before .before in
-    not-filled _ _ (λ F. c .before .zeros-at2 .ensures .bad (not-true _ (c .if3 .taken)) (rw (d .before .count-at .ensures) (F .elems)))
+    not-filled _ _ (λ F. c .before .zeros-at .ensures .bad (not-true _ (c .if3 .taken)) (rw (d .before .count-at .ensures) (F .elems)))
 
 returns-4 : tie.Need-returns-4
 returns-4 c =
     let d = c .before .before .before .before .before in
     not-filled _ _
     (inner-kids _ _ (d .before .before .before .pre) (eqb-false _ _ (sym (d .leaf-at .ensures) ∙ c .before .before .before .before .if1 .left))
-    (rw (d .before .count-at .ensures) at (c .before .zeros-at3 .ensures .bad (not-true _ (c .if4 .taken)))))
+    (rw (d .before .count-at .ensures) at (c .before .zeros-at2 .ensures .bad (not-true _ (c .if4 .taken)))))
 
 adds-up-requires : tie.Need-adds-up-requires
 adds-up-requires c κs =
@@ -43,8 +43,8 @@ returns-5 c =
     let z = c .before .before in
     let d = z .before .before .before .before in
     inner-filled _ _ (d .before .before .before .pre) (eqb-false _ _ (sym (d .leaf-at .ensures) ∙ c .before .before .before .before .before .if1 .left))
-    (rw (d .before .count-at .ensures) at (z .before .before .zeros-at2 .ensures .good (not-false _ (z .before .if3 .left))))
-    (rw (d .before .count-at .ensures) at (z .zeros-at3 .ensures .good (not-false _ (c .before .if4 .left))))
+    (rw (d .before .count-at .ensures) at (z .before .before .zeros-at .ensures .good (not-false _ (z .before .if3 .left))))
+    (rw (d .before .count-at .ensures) at (z .zeros-at2 .ensures .good (not-false _ (c .before .if4 .left))))
     (c .adds-up .ensures)
 
 pub filled-spec : {M : Type 1} → statement M
