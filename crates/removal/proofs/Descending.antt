@@ -13,7 +13,7 @@ use Rattle.model.specs.Tree.{Tree, kid, size, find, before}
 use Rattle.model.specs.Fit.{Fit}
 use Rattle.model.specs.Remove.{merge, repairFor, repaired, Filled, fill, Shrunk, back, swapped, wayFor, removeStep, remove}
 use Rattle.model.proofs.Nodes.{size-least, Rearranged, rearranged}
-use Rattle.model.proofs.Find.{place, found, Step, step, separator}
+use Rattle.model.proofs.Find.{Step, step, separator}
 use Rattle.model.proofs.Fill.{Refilled, merge-refills, fill-law}
 use Rattle.model.proofs.Remove.{Says, says}
 use Rattle.removal.specs.Down.{Descended, entered, beside, downBy, descend, ascend}
@@ -77,11 +77,11 @@ pub record Descends (h : ℕ) (t : Tree (suc h)) (f : List ℕ) (d : Descended h
   pub few : length (d .free) ≤ length f + 1
 
 -- a repair leaves the node's id, and frees one node at most
-pub record Keeps (h : ℕ) (t : Tree (suc h)) (f : List ℕ) (s : Filled h) : Type 0 where
-  pub here : s .node .id ≡ t .id
-  pub few : length (s .free) ≤ length f + 1
+record Keeps (h : ℕ) (t : Tree (suc h)) (f : List ℕ) (s : Filled h) : Type 0 where
+  here : s .node .id ≡ t .id
+  few : length (s .free) ≤ length f + 1
 
-pub fill-keeps : (h : ℕ) (t : Tree (suc h)) (c : ℕ) (f : List ℕ) → Keeps h t f (fill h t c f)
+fill-keeps : (h : ℕ) (t : Tree (suc h)) (c : ℕ) (f : List ℕ) → Keeps h t f (fill h t c f)
 unfolding fill
 fill-keeps h t c f = go (repairFor h t c)
   where
@@ -92,13 +92,6 @@ fill-keeps h t c f = go (repairFor h t c)
     go WithLeft = record { here = refl; few = omega arith }
     go WithRight = record { here = refl; few = omega arith }
 
--- the search finds the child that was filled
-pub found-filled : (h : ℕ) (t : Tree (suc h)) (i : ℕ) (f : List ℕ) (s : Filled h) → Refilled h t i f s
-    → find h (s .node) i ≡ place (s .child) (i - before h (s .node) (s .child))
-found-filled h t i f s R =
-    found h (s .node) i (s .child) (i - before h (s .node) (s .child)) (omega (arith, R .child, R .same .fit .one-more))
-    (omega (arith, R .from, R .upto)) (omega (arith, R .from))
-
 module _ (h : ℕ) (t : Tree (suc h)) (i : ℕ) (f : List ℕ) (F : Fit (suc h) t) (n : 0 < length (t .elems)) (b : i < size (suc h) t) where
   abbrev c : ℕ
   c = find h t i .child
@@ -106,7 +99,7 @@ module _ (h : ℕ) (t : Tree (suc h)) (i : ℕ) (f : List ℕ) (F : Fit (suc h) 
   pub way : Step h t i
   way = step h t F i (omega arith)
 
-  pub went : Says h t c i (wayFor h t i)
+  went : Says h t c i (wayFor h t i)
   went = says h t i way
 
   refilled : (s : Filled h) → Refilled h t i f s → Keeps h t f s → Descends h t f (entered h s i)
@@ -123,7 +116,7 @@ module _ (h : ℕ) (t : Tree (suc h)) (i : ℕ) (f : List ℕ) (F : Fit (suc h) 
   pub place-of : i ≡ before h t c + size h (kid h t c) → c < length (t .elems)
   place-of e = separator h t F i b (omega (arith, way .index))
 
-  pub filled : Says h t c i Inside → Refilled h t i f (fill h t c f)
+  filled : Says h t c i Inside → Refilled h t i f (fill h t c f)
   filled p = fill-law h t c i f F n (way .child) (omega (arith, way .index)) p
 
   merged : Says h t c i ByMerge → Refilled h t i f (record { node = merge h t c; child = c; free = kid h t (c + 1) .id ∷ f })

@@ -2,29 +2,28 @@
 use mathlib.Core.Path.{_≡_, refl, sym, ap, subst, _∙_}
 use mathlib.Core.Bool.{Bool, true, false}
 use mathlib.Core.List.{List, _∷_}
-use Prim.Native.Nat.{ℕ, suc, _+_, _-_, _<_}
+use Prim.Native.Nat.{ℕ, suc, _+_, _-_, _^_, _<_}
 use native.Mathlib.Omega.{arith}
 use borrow.Author.Tests.{eqb-true, leb-true, leb-false}
-use lib.ListN.{length, take, drop, getD}
-use lib.Seq.{length-take-le, take-at, getD-at}
+use lib.ListN.{length}
 use Rattle.model.specs.declared.Way.{Way}
 use Rattle.model.specs.declared.Way.the-variants.{Inside, ByLast, ByFirst, ByMerge}
-use Rattle.model.specs.Tree.{Tree, kid, none, size, find, before, atSeparator}
-use Rattle.model.specs.Remove.{isThin, joined, merge, fill, wayFor}
+use Rattle.model.specs.Tree.{Tree, kid, size, find, atSeparator}
+use Rattle.model.specs.Remove.{isThin, merge, fill, wayFor}
 use Rattle.model.proofs.Nodes.{size-least}
 use Rattle.model.proofs.Find.{Step}
-use Rattle.model.proofs.Fill.{Refilled}
-use Rattle.model.proofs.Remove.{Says}
 use Rattle.pool.specs.Parts.{Inside as InPool, kidAt}
 use Rattle.tree.specs.declared.Turn.{Turn}
 use Rattle.tree.specs.Lookup.{Above, Turns}
 use Rattle.tree.specs.Stands.{Owns, Reshaped}
 use Rattle.tree.proofs.Edits.{kid-readable, child-is, reshaped-none, owns-above}
+use Rattle.repair.specs.declared.Refill.{Refill}
 use Rattle.repair.specs.Ready.{PairReady, Few, FillReady, Fills}
+use Rattle.repair.proofs.Places.{merge-stays}
 use Rattle.repair.proofs.Choice.{ThinIs}
 use Rattle.removal.specs.declared.Descent.{Descent}
 use Rattle.removal.specs.Down.{downBy, descend, DownReady, Went}
-use Rattle.removal.proofs.Descending.{fill-keeps, found-filled, way, went, place-of, filled}
+use Rattle.removal.proofs.Descending.{way, place-of}
 
 module _ {w : List ℕ} {id index : ℕ} (s : DownReady w id index) where
   abbrev h : ℕ
@@ -44,9 +43,6 @@ module _ {w : List ℕ} {id index : ℕ} (s : DownReady w id index) where
 
   W : Step h t index
   W = way h t index f (O .fit) (s .ready .some) (s .ready .below)
-
-  says : Says h t c index (wayFor h t index)
-  says = went h t index f (O .fit) (s .ready .some) (s .ready .below)
 
   abbrev pub above : Above w id index
   above = owns-above O (s .ready .here) index (omega (arith, s .ready .below))
@@ -73,40 +69,26 @@ module _ {w : List ℕ} {id index : ℕ} (s : DownReady w id index) where
 
     -- ---- the index is inside the child
 
-    module _ (apart : u .separator ≡ false) (w₁ : List ℕ) (n : ℕ)
-        (fills : (q : FillReady w id (u .child)) → Fills w w₁ (q .height) (q .tree) (q .free) (fill (q .height) (q .tree) (u .child) (q .free)) n) where
-      inside : wayFor h t index ≡ Inside
-      unfolding wayFor
-      inside = rw (sym (T .separator) ∙ apart) refl
-
-      S : Refilled h t index f (fill h t c f)
-      S = filled h t index f (O .fit) (s .ready .some) (s .ready .below) (subst (Says h t c index) inside says)
-
-      M : Fills w w₁ h t f (fill h t c f) n
+    module _ (w₁ : List ℕ) (r : Refill)
+        (fills : (q : FillReady w id (u .child)) → Fills w w₁ (q .height) (q .tree) (q .free) (u .child)
+        (fill (q .height) (q .tree) (u .child) (q .free)) r) where
+      M : Fills w w₁ h t f c (fill h t c f) r
       unfolding turn-kid kid-ready
-      M = subst (λ (d : ℕ). Fills w w₁ h t f (fill h t d f) n) (T .child) (fills turn-kid)
+      M = subst (λ (d : ℕ). Fills w w₁ h t f d (fill h t d f) r) (T .child) (fills turn-kid)
 
-      pub again : Above w₁ id index
-      again = record {
-        height = h;
-        tree = fill h t c f .node;
-        here = fill-keeps h t c f .here ∙ s .ready .here;
-        at = M .reshaped .at;
-        fit = S .same .fit;
-        upto = omega (arith, S .same .sized, s .ready .below);
-      }
+      pub sub-fits : u .sub + r .ahead < 2 ^ 64
+      sub-fits = omega (arith, T .sub, W .index, M .ahead, s .ready .below, O .small)
 
-      pub went-inside : (v : Turn) → ((q : Above w₁ id index) → Turns (q .height) (q .tree) index v)
-          → Went w w₁ h t f (descend h t index f) (record { id = v .id; index = v .sub; swaps = false; at = 0; freed = n })
-      unfolding downBy again
-      went-inside v e =
-          let is = found-filled h t index f (fill h t c f) S in
-          by Inside inside (record {
-            id = rw is at (e again .id);
-            index = rw is at (e again .sub);
+      pub went-inside : u .separator ≡ false
+          → Went w w₁ h t f (descend h t index f) (record { id = r .id; index = u .sub + r .ahead; swaps = false; at = 0; freed = r .freed })
+      unfolding wayFor downBy
+      went-inside apart =
+          by Inside (rw (sym (T .separator) ∙ apart) refl) (record {
+            id = M .id;
+            index = omega (arith, T .sub, W .index, M .ahead);
             swaps = refl;
             at = refl;
-            freed = M .count;
+            freed = M .freed;
             reshaped = M .reshaped;
           })
 
@@ -193,14 +175,12 @@ module _ {w : List ℕ} {id index : ℕ} (s : DownReady w id index) where
           pub went-merged : (w₁ : List ℕ) → ((q : PairReady Few w id (u .child)) → Reshaped w w₁ (suc (q .height)) (q .tree) (q .free)
               (merge (q .height) (q .tree) (u .child)) (kid (q .height) (q .tree) (u .child + 1) .id ∷ q .free))
               → Went w w₁ h t f (descend h t index f) (record { id = u .id; index = u .sub; swaps = false; at = 0; freed = 1 })
-          unfolding wayFor downBy merge-ready merge before
+          unfolding wayFor downBy merge-ready
           went-merged w₁ done =
-              let l : length (take c (t .kids)) ≡ c = length-take-le c (t .kids) (omega (arith, place, O .fit .one-more)) in
+              let S = merge-stays h t c (omega (arith, place, O .fit .one-more)) in
               by ByMerge (rw (sep, left-thin e, right-thin g) refl) (record {
-                id = T .id ∙ rw (getD-at (take c (t .kids)) (joined (kid h t c) (getD (t .elems) c 0) (kid h t (c + 1))) (drop (c + 2) (t .kids))
-                    (none h) c l) refl;
-                index = T .sub ∙ rw (take-at (take c (t .kids))
-                    (joined (kid h t c) (getD (t .elems) c 0) (kid h t (c + 1)) ∷ drop (c + 2) (t .kids)) c l) (omega (arith, W .index));
+                id = T .id ∙ sym (S .id);
+                index = omega (arith, T .sub, W .index, S .start);
                 swaps = refl;
                 at = refl;
                 freed = omega arith;

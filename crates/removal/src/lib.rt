@@ -31,7 +31,7 @@ pub struct Descent {
 
 // ---- one level of a removal, and all levels
 
-// The way of a removal through node id, until it goes below. After a child was filled the search is made again.
+// The way of a removal through node id, until it goes below. What came in front when a child was filled moves the index in it.
 fn go_down(pool: &mut [u64], id: usize, index: usize) -> Descent
     requires { ⌜ DownReady (now pool) id index ⌝ }
     ensures { λ r. ⌜ ((s : DownReady (now (pool .entry)) id index) → Went (now (pool .entry)) (now (pool .exit))
@@ -40,14 +40,13 @@ fn go_down(pool: &mut [u64], id: usize, index: usize) -> Descent
     let t = tree::way_to(pool, id, index);
     let c = t.child;
     if !t.separator {
-        let freed = repair::fill(pool, id, c);
-        let u = tree::way_to(pool, id, index);
+        let f = repair::fill(pool, id, c);
         return Descent {
-            id: u.id,
-            index: u.sub,
+            id: f.id,
+            index: t.sub + f.ahead,
             swaps: false,
             at: 0,
-            freed,
+            freed: f.freed,
         };
     }
     if !repair::is_thin(pool, id, c) {

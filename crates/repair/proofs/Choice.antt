@@ -2,7 +2,6 @@
 use mathlib.Core.Path.{_≡_, refl, sym, ap, subst, _∙_}
 use mathlib.Core.Bool.{Bool, true, false}
 use mathlib.Core.List.{List, _∷_}
-use mathlib.Core.Logic.{_⊎_, inl, inr}
 use Prim.Native.Nat.{ℕ, suc, _+_, _-_, _≤_, _<_}
 use native.Mathlib.Decide.{decLt}
 use native.Mathlib.Omega.{arith}
@@ -10,7 +9,7 @@ use borrow.Author.Tests.{lt-ltb, le-ltb}
 use lib.Dec.{leb}
 use lib.ListN.{length}
 use Rattle.model.specs.Tree.{Tree, kid}
-use Rattle.model.specs.Remove.{isThin, merge, borrowLeft, borrowRight, repairFor, repaired, fill}
+use Rattle.model.specs.Remove.{isThin, merge, borrowRight, repairFor, Filled, repaired, fill}
 use Rattle.model.specs.declared.Repair.{Repair}
 use Rattle.model.specs.declared.Repair.the-variants.{Nothing, FromLeft, FromRight, WithLeft, WithRight}
 use Rattle.model.proofs.Fill.{Says, says}
@@ -18,7 +17,9 @@ use Rattle.pool.specs.Parts.{Inside, countAt, kidAt}
 use Rattle.pool.proofs.Node.{at-count}
 use Rattle.tree.specs.Stands.{Reshaped}
 use Rattle.tree.proofs.Edits.{child-is, reshaped-none}
+use Rattle.repair.specs.declared.Refill.{Refill}
 use Rattle.repair.specs.Ready.{PairReady, Few, LeftLends, RightLends, FillReady, Fills}
+use Rattle.repair.proofs.Places.{Stays, merge-stays, borrow-stays, one-less}
 
 -- child d has no element to spare, or has one
 abbrev pub ThinIs : List ℕ → ℕ → ℕ → Bool → Type 0
@@ -120,63 +121,77 @@ module _ {w : List ℕ} {id c : ℕ} (a : Repair) (ea : (q : FillReady w id c) �
     counts = p;
   }
 
-  one-less : 0 < c → c - 1 + 1 ≡ c
-  one-less l = omega arith
-
-  pub from-left : a ≡ FromLeft → PairReady LeftLends w id (c - 1)
+  pub from-left : a ≡ FromLeft → (0 < c) × PairReady LeftLends w id (c - 1)
   from-left e =
       let p = said FromLeft e in
-      pairs {P = LeftLends} (c - 1) (omega (arith, s .place, s .owns .fit .one-more)) (rw (one-less (p .0)) (omega arith))
+      (p .0, pairs {P = LeftLends} (c - 1) (omega (arith, s .place, s .owns .fit .one-more)) (rw (one-less c (p .0)) (omega arith)))
 
   pub from-right : a ≡ FromRight → PairReady RightLends w id c
   from-right e = let p = said FromRight e in pairs {P = RightLends} c (omega (arith, s .owns .fit .one-more)) (omega arith)
 
-  pub with-left : a ≡ WithLeft → PairReady Few w id (c - 1)
+  pub with-left : a ≡ WithLeft → (0 < c) × PairReady Few w id (c - 1)
   with-left e =
       let p = said WithLeft e in
-      pairs {P = Few} (c - 1) (omega (arith, s .place, s .owns .fit .one-more)) (rw (one-less (p .0)) (omega arith))
+      (p .0, pairs {P = Few} (c - 1) (omega (arith, s .place, s .owns .fit .one-more)) (rw (one-less c (p .0)) (omega arith)))
 
   pub with-right : a ≡ WithRight → PairReady Few w id c
   with-right e = let p = said WithRight e in pairs {P = Few} c (omega (arith, s .owns .fit .one-more)) (omega arith)
 
-  -- there is a left sibling where it is told to lend or to merge
-  pub has-left : (a ≡ FromLeft) ⊎ (a ≡ WithLeft) → 0 < c
-  has-left (inl e) = said FromLeft e .0
-  has-left (inr e) = said WithLeft e .0
+  abbrev hₛ : ℕ
+  hₛ = s .height
 
-  module _ (w′ : List ℕ) where
-    by : (r : Repair) → a ≡ r → (n : ℕ) → Fills w w′ (s .height) (s .tree) (s .free) (repaired (s .height) r (s .tree) c (s .free)) n
-        → Fills w w′ (s .height) (s .tree) (s .free) (fill (s .height) (s .tree) c (s .free)) n
+  abbrev tₛ : Tree (suc hₛ)
+  tₛ = s .tree
+
+  -- words w′ and answer n are those of a repair
+  module _ (w′ : List ℕ) (n : Refill) where
+    abbrev Does : Filled hₛ → Type 0
+    Does d = Fills w w′ hₛ tₛ (s .free) c d n
+
+    by : (r : Repair) → a ≡ r → Does (repaired hₛ r tₛ c (s .free)) → Does (fill hₛ tₛ c (s .free))
     unfolding fill
-    by r e n D = subst (λ (x : Repair). Fills w w′ (s .height) (s .tree) (s .free) (repaired (s .height) x (s .tree) c (s .free)) n) (sym e ∙ ea s) D
+    by r e D = subst (λ (x : Repair). Does (repaired hₛ x tₛ c (s .free))) (sym e ∙ ea s) D
 
     pub left-borrowed : a ≡ FromLeft → ((q : PairReady LeftLends w id (c - 1))
-        → Reshaped w w′ (suc (q .height)) (q .tree) (q .free) (borrowLeft (q .height) (q .tree) (c - 1)) (q .free))
-        → Fills w w′ (s .height) (s .tree) (s .free) (fill (s .height) (s .tree) c (s .free)) 0
-    unfolding repaired from-left pairs
-    left-borrowed e done = by FromLeft e 0 (record { count = omega arith; reshaped = done (from-left e) })
+        → Fills w w′ (q .height) (q .tree) (q .free) c (repaired (q .height) FromLeft (q .tree) c (q .free)) n)
+        → Does (fill hₛ tₛ c (s .free))
+    unfolding from-left pairs
+    left-borrowed e done = by FromLeft e (done (from-left e .1))
 
-    pub right-borrowed : a ≡ FromRight → ((q : PairReady RightLends w id c)
-        → Reshaped w w′ (suc (q .height)) (q .tree) (q .free) (borrowRight (q .height) (q .tree) c) (q .free))
-        → Fills w w′ (s .height) (s .tree) (s .free) (fill (s .height) (s .tree) c (s .free)) 0
-    unfolding repaired from-right pairs
-    right-borrowed e done = by FromRight e 0 (record { count = omega arith; reshaped = done (from-right e) })
+    pub left-merged : a ≡ WithLeft → ((q : PairReady Few w id (c - 1))
+        → Fills w w′ (q .height) (q .tree) (q .free) c (repaired (q .height) WithLeft (q .tree) c (q .free)) n)
+        → Does (fill hₛ tₛ c (s .free))
+    unfolding with-left pairs
+    left-merged e done = by WithLeft e (done (with-left e .1))
 
-    pub left-merged : a ≡ WithLeft → ((q : PairReady Few w id (c - 1)) → Reshaped w w′ (suc (q .height)) (q .tree) (q .free)
-        (merge (q .height) (q .tree) (c - 1)) (kid (q .height) (q .tree) (c - 1 + 1) .id ∷ q .free))
-        → Fills w w′ (s .height) (s .tree) (s .free) (fill (s .height) (s .tree) c (s .free)) 1
-    unfolding repaired with-left pairs
-    left-merged e done =
-        let moved = subst (λ (d : ℕ). Reshaped w w′ (suc (s .height)) (s .tree) (s .free) (merge (s .height) (s .tree) (c - 1))
-        (kid (s .height) (s .tree) d .id ∷ s .free)) (one-less (has-left (inr e))) (done (with-left e)) in
-        by WithLeft e 1 (record { count = omega arith; reshaped = moved })
+  -- child c, in node k, stays where it is
+  module _ (k : ℕ) (ek : k ≡ kidAt w id c) where
+    abbrev answer : ℕ → Refill
+    answer n = record { id = k; ahead = 0; freed = n }
 
-    pub right-merged : a ≡ WithRight → ((q : PairReady Few w id c) → Reshaped w w′ (suc (q .height)) (q .tree) (q .free)
-        (merge (q .height) (q .tree) c) (kid (q .height) (q .tree) (c + 1) .id ∷ q .free))
-        → Fills w w′ (s .height) (s .tree) (s .free) (fill (s .height) (s .tree) c (s .free)) 1
-    unfolding repaired with-right pairs
-    right-merged e done = by WithRight e 1 (record { count = omega arith; reshaped = done (with-right e) })
+    stayed : {w′ : List ℕ} (t′ : Tree (suc hₛ)) (g : List ℕ) (n : ℕ) → Stays hₛ tₛ t′ c → length (s .free) + n ≡ length g
+        → Reshaped w w′ (suc hₛ) tₛ (s .free) t′ g
+        → Fills w w′ hₛ tₛ (s .free) c (record { node = t′; child = c; free = g }) (answer n)
+    stayed t′ g n S e R = record { id = sym (S .id ∙ is s k ek); ahead = omega (arith, S .start); freed = e; reshaped = R }
 
-  pub nothing-done : a ≡ Nothing → Fills w w (s .height) (s .tree) (s .free) (fill (s .height) (s .tree) c (s .free)) 0
-  unfolding repaired
-  nothing-done e = by w Nothing e 0 (record { count = omega arith; reshaped = reshaped-none (s .owns) })
+    pub nothing-done : a ≡ Nothing → Fills w w hₛ tₛ (s .free) c (fill hₛ tₛ c (s .free)) (answer 0)
+    unfolding repaired
+    nothing-done e =
+        by w (answer 0) Nothing e (stayed tₛ (s .free) 0 (record { id = refl; start = refl }) (omega arith) (reshaped-none (s .owns)))
+
+    module _ (w′ : List ℕ) where
+      pub right-borrowed : a ≡ FromRight → ((q : PairReady RightLends w id c)
+          → Reshaped w w′ (suc (q .height)) (q .tree) (q .free) (borrowRight (q .height) (q .tree) c) (q .free))
+          → Fills w w′ hₛ tₛ (s .free) c (fill hₛ tₛ c (s .free)) (answer 0)
+      unfolding repaired from-right pairs
+      right-borrowed e done =
+          by w′ (answer 0) FromRight e
+          (stayed (borrowRight hₛ tₛ c) (s .free) 0 (borrow-stays hₛ tₛ c (s .place)) (omega arith) (done (from-right e)))
+
+      pub right-merged : a ≡ WithRight → ((q : PairReady Few w id c) → Reshaped w w′ (suc (q .height)) (q .tree) (q .free)
+          (merge (q .height) (q .tree) c) (kid (q .height) (q .tree) (c + 1) .id ∷ q .free))
+          → Fills w w′ hₛ tₛ (s .free) c (fill hₛ tₛ c (s .free)) (answer 1)
+      unfolding repaired with-right pairs
+      right-merged e done =
+          by w′ (answer 1) WithRight e
+          (stayed (merge hₛ tₛ c) (kid hₛ tₛ (c + 1) .id ∷ s .free) 1 (merge-stays hₛ tₛ c (s .place)) (omega arith) (done (with-right e)))

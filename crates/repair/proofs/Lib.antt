@@ -2,4 +2,5 @@
 pub mod Ends
 pub mod Pairing
 pub mod Moves
+pub mod Places
 pub mod Choice

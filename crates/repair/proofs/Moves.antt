@@ -174,9 +174,6 @@ module _ {P : ℕ → ℕ → Type 0} {w : List ℕ} {id c : ℕ} (s : PairReady
   pair : Pair w (s .height) (s .tree) (s .free) c id l r
   pair = record { owns = s .owns; place = s .place; top = s .here; left = pair-is s c (omega arith) l hl; right = pair-is s (c + 1) (omega arith) r hr }
 
-  pub pair-inside : Inside w l
-  pair-inside = rw (← (pair .left)) (left-in pair .at .here .inside)
-
   pub pair-count : (m : ℕ) → m ≡ countAt w l → m ≡ length (kid (s .height) (s .tree) c .elems)
   pair-count m e = e ∙ ap (countAt w) (sym (pair .left)) ∙ at-count w (s .height) (kid (s .height) (s .tree) c) (left-in pair .at .here)
 

@@ -3,9 +3,10 @@ use mathlib.Core.Path.{_≡_}
 use mathlib.Core.List.{List}
 use Prim.Native.Nat.{ℕ, suc, _+_, _≤_, _<_}
 use lib.ListN.{length}
-use Rattle.model.specs.Tree.{Tree, kid}
+use Rattle.model.specs.Tree.{Tree, kid, before}
 use Rattle.model.specs.Remove.{Filled}
 use Rattle.tree.specs.Stands.{Owns, Reshaped}
+use Rattle.repair.specs.declared.Refill.{Refill}
 
 -- children c and c + 1 of node id have as many elements as P says
 pub record PairReady (P : ℕ → ℕ → Type 0) (w : List ℕ) (id c : ℕ) : Type 0 where
@@ -37,7 +38,9 @@ pub record FillReady (w : List ℕ) (id c : ℕ) : Type 0 where
   pub some : 0 < length (tree .elems)
   pub place : c < length (tree .kids)
 
--- the child that the removal goes into was filled, and that freed so many nodes
-pub record Fills (w w′ : List ℕ) (h : ℕ) (t : Tree (suc h)) (f : List ℕ) (s : Filled h) (freed : ℕ) : Type 0 where
-  pub count : length f + freed ≡ length (s .free)
+-- child c was filled: r names its node then, how many elements came in front of its own, and how many nodes were freed
+pub record Fills (w w′ : List ℕ) (h : ℕ) (t : Tree (suc h)) (f : List ℕ) (c : ℕ) (s : Filled h) (r : Refill) : Type 0 where
+  pub id : r .id ≡ kid h (s .node) (s .child) .id
+  pub ahead : before h t c ≡ before h (s .node) (s .child) + r .ahead
+  pub freed : length f + r .freed ≡ length (s .free)
   pub reshaped : Reshaped w w′ (suc h) t f (s .node) (s .free)

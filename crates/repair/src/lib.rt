@@ -1,13 +1,20 @@
 // A child of a node that stands in the pool is brought to 16 elements: by a neighbour that lends, or by a merge with one.
 ghost use mathlib.Core.Path.{_≡_};
 ghost use mathlib.Core.List.{_∷_};
-ghost use Prim.Native.Nat.{suc, _+_};
+ghost use Prim.Native.Nat.{suc, _+_, _-_, _<_};
 ghost use Rattle.model.specs.Tree.{kid};
-ghost use Rattle.model.specs.Remove.{isThin, merge, borrowLeft, borrowRight, repairFor, fill};
+ghost use Rattle.model.specs.Remove.{isThin, merge, borrowLeft, borrowRight, repairFor, repaired, fill};
 ghost use Rattle.tree.specs.Stands.{Reshaped};
 ghost use Rattle.repair.specs.Ready.{PairReady, Few, LeftLends, RightLends, FillReady, Fills};
 use model::Repair;
 use pieces::End;
+
+// A child that was brought to 16 elements: its node, how many elements came in front of its own, and how many nodes that freed.
+pub struct Refill {
+    pub id: usize,
+    pub ahead: usize,
+    pub freed: usize,
+}
 
 // ---- two neighbouring children
 
@@ -101,32 +108,77 @@ fn repair_for(pool: &[u64], id: usize, c: usize) -> Repair
     Repair::WithRight
 }
 
-// Brings child c of node id to 16 elements or more, and gives how many nodes that freed.
-pub fn fill(pool: &mut [u64], id: usize, c: usize) -> usize
+// Child c of node id borrows from child c - 1: what comes from there stands in front.
+fn fill_from_left(pool: &mut [u64], id: usize, c: usize) -> Refill
+    requires { ⌜ 0 < c ⌝ }
+    requires { ⌜ PairReady LeftLends (now pool) id (c - 1) ⌝ }
+    ensures { λ r. ⌜ ((s : PairReady LeftLends (now (pool .entry)) id (c - 1)) → Fills (now (pool .entry)) (now (pool .exit))
+        (s .height) (s .tree) (s .free) c (repaired (s .height) Repair.FromLeft (s .tree) c (s .free)) r) ⌝ }
+{
+    let k = pool::kid_at(pool, id, c);
+    let n = pool::length_at(pool, k);
+    borrow_left(pool, id, c - 1);
+    Refill {
+        id: k,
+        ahead: pool::length_at(pool, k) - n,
+        freed: 0,
+    }
+}
+
+// Child c of node id goes into child c - 1, whose own elements and the separator stand in front.
+fn fill_with_left(pool: &mut [u64], id: usize, c: usize) -> Refill
+    requires { ⌜ 0 < c ⌝ }
+    requires { ⌜ PairReady Few (now pool) id (c - 1) ⌝ }
+    ensures { λ r. ⌜ ((s : PairReady Few (now (pool .entry)) id (c - 1)) → Fills (now (pool .entry)) (now (pool .exit))
+        (s .height) (s .tree) (s .free) c (repaired (s .height) Repair.WithLeft (s .tree) c (s .free)) r) ⌝ }
+{
+    let l = pool::kid_at(pool, id, c - 1);
+    let n = pool::length_at(pool, l);
+    merge(pool, id, c - 1);
+    Refill {
+        id: l,
+        ahead: n + 1,
+        freed: 1,
+    }
+}
+
+// Brings child c of node id to 16 elements or more.
+pub fn fill(pool: &mut [u64], id: usize, c: usize) -> Refill
     requires { ⌜ FillReady (now pool) id c ⌝ }
     ensures { λ r. ⌜ ((s : FillReady (now (pool .entry)) id c) → Fills (now (pool .entry)) (now (pool .exit))
-        (s .height) (s .tree) (s .free) (fill (s .height) (s .tree) c (s .free)) r) ⌝ }
+        (s .height) (s .tree) (s .free) c (fill (s .height) (s .tree) c (s .free)) r) ⌝ }
 {
+    let k = pool::kid_at(pool, id, c);
     let repair = repair_for(pool, id, c);
     match repair {
         Repair::Nothing => {
-            return 0;
+            return Refill {
+                id: k,
+                ahead: 0,
+                freed: 0,
+            };
         }
         Repair::FromLeft => {
-            borrow_left(pool, id, c - 1);
-            return 0;
+            return fill_from_left(pool, id, c);
         }
         Repair::FromRight => {
             borrow_right(pool, id, c);
-            return 0;
+            return Refill {
+                id: k,
+                ahead: 0,
+                freed: 0,
+            };
         }
         Repair::WithLeft => {
-            merge(pool, id, c - 1);
-            return 1;
+            return fill_with_left(pool, id, c);
         }
         Repair::WithRight => {
             merge(pool, id, c);
-            return 1;
+            return Refill {
+                id: k,
+                ahead: 0,
+                freed: 1,
+            };
         }
     }
 }

@@ -7,7 +7,7 @@ use borrow.Author.Needs.{needs}
 use borrow.Author.Tests.{not-true, not-false}
 use denote.Ref.{now}
 use Rattle.repair.proofs.Choice.{ThinIs}
-use Rattle.removal.proofs.Going.{above, turn-kid, again, went-inside, few-kids}
+use Rattle.removal.proofs.Going.{above, turn-kid, few-kids, sub-fits, went-inside}
 use Rattle.removal.proofs.Going.{next-kid, next-has, last-some, went-last, went-first, merge-ready, went-merged}
 use Rattle.removal.proofs.go_down.Statement.{statement}
 use Rattle.removal.proofs.go_down.Tie as tie
@@ -26,8 +26,7 @@ right c q = sym (c .before .is-thin2 .ensures q) ∙ not-false _ (c .if3 .left)
 returns : tie.Need-returns
 returns c s =
     let f = c .before .before .before .before in
-    went-inside s _ (f .before .before .before .before .way-to .ensures) (not-true _ (f .before .before .if1 .taken)) _ _ (f .fill .ensures) _
-    (c .way-to2 .ensures)
+    went-inside s _ (f .before .before .before .before .way-to .ensures) _ _ (f .fill .ensures) (not-true _ (f .before .before .if1 .taken))
 
 returns-3 : tie.Need-returns-3
 returns-3 c s =
@@ -47,10 +46,13 @@ go-down-spec =
     tie.close
     (tie.spec (λ c κs. above (c .before .before .pre))
     (λ c κs. turn-kid (c .before .before .before .before .before .before .pre) _ (c .before .before .before .way-to .ensures))
-    (λ c κs.
-    again (c .before .before .before .before .before .before .before .before .before .before .pre) _
-    (c .before .before .before .before .before .before .before .way-to .ensures)
-    (not-true _ (c .before .before .before .before .before .if1 .taken)) _ _ (c .before .before .before .fill .ensures))
+    (λ c.
+    let f = c .before .before .before .before in
+    omega (
+      arith,
+      sub-fits (f .before .before .before .before .before .before .before .pre) _ (f .before .before .before .before .way-to .ensures) _ _
+          (f .fill .ensures),
+    ))
     (λ c. search needs) returns
     (λ c κs. turn-kid (c .before .before .before .before .before .before .pre) _ (c .before .before .before .way-to .ensures))
     (λ c.
