@@ -15,7 +15,6 @@ use Rattle.pool.specs.Layout.{chainWord, nodeWords, withBlock, nodeBlock, idOf,
 use Rattle.pool.specs.Parts.{Inside, Stored, ChainAt, countAt, kidAt}
 use Rattle.pool.specs.Frame.{Untouched}
 use Rattle.chain.specs.Chain.{Gave}
-use Rattle.pool.proofs.Node.{at-count}
 use Rattle.pool.proofs.Frame.{stored-untouched, untouched-both, Wrote, wrote, stored-same}
 use Rattle.pool.proofs.Blocks.{length-nodeBlock, length-rootBlock}
 use Rattle.tree.specs.Stands.{Owns, Reshaped}
@@ -27,7 +26,7 @@ use Rattle.pieces.specs.Pieces.{Takes, TookOut, Joins, lengthOr, Lends, Lent}
 use Rattle.repair.proofs.Ends.{seats, seats-length, In, seated, slot-inside, join-block}
 use Rattle.repair.proofs.Ends.{last-less, last-given, front-taken, first-less, first-given, back-taken}
 use Rattle.pieces.proofs.Lending.{seated-kept}
-use Rattle.repair.proofs.Pairing.{pair-is, Pair, top-in, left-in, right-in, pair-sizes, pair-ids, merged-ids}
+use Rattle.repair.proofs.Pairing.{pair-is, pair-count, Pair, top-in, left-in, right-in, pair-sizes, pair-ids, merged-ids}
 use Rattle.repair.proofs.Pairing.{left-below, right-below, left-right, right-in-use, left-kids, right-kids, pair-chain, pair-rebuilt}
 
 pub root-is : (h : ℕ) (t : Tree (suc h)) → rootBlock (suc h) t ≡ nodeBlock (size (suc h) t) (t .elems) (map (idOf h) (t .kids))
@@ -174,9 +173,6 @@ module _ {P : ℕ → ℕ → Type 0} {w : List ℕ} {id c : ℕ} (s : PairReady
   pair : Pair w (s .height) (s .tree) (s .free) c id l r
   pair = record { owns = s .owns; place = s .place; top = s .here; left = pair-is s c (omega arith) l hl; right = pair-is s (c + 1) (omega arith) r hr }
 
-  pub pair-count : (m : ℕ) → m ≡ countAt w l → m ≡ length (kid (s .height) (s .tree) c .elems)
-  pair-count m e = e ∙ ap (countAt w) (sym (pair .left)) ∙ at-count w (s .height) (kid (s .height) (s .tree) c) (left-in pair .at .here)
-
 -- the ends, where the left child has m elements
 abbrev lastOf : ℕ → ℕ → End
 lastOf l m = record { node = l; elem = m - 1; kid = m }
@@ -214,7 +210,7 @@ module _ {w : List ℕ} {id c : ℕ} (l r m : ℕ)
         (last-less (left-in QL) someL) (omega arith) (omega arith) (s .counts .1)
 
     pub left-lends : Lends w id c (lastOf l m) (frontOf r)
-    left-lends = rw (pair-count s l r hl hr m em) lendsL
+    left-lends = rw (pair-count s c (omega arith) l hl m em) lendsL
 
     pub left-lent : (w′ : List ℕ)
         → ((q : Lends w id c (lastOf l m) (frontOf r)) → Lent w w′ id c (lastOf l m) (frontOf r) (q .lender .seated .node)
@@ -222,7 +218,7 @@ module _ {w : List ℕ} {id c : ℕ} (l r m : ℕ)
         → Reshaped w w′ (suc hL) (s .tree) (s .free) (borrowLeft hL (s .tree) c) (s .free)
     unfolding lendsL lends-of borrowLeft last butLast
     left-lent w′ lent =
-        let L = (rw (pair-count s l r hl hr m em) at lent) lendsL in
+        let L = (rw (pair-count s c (omega arith) l hl m em) at lent) lendsL in
         let e : ℕ = getD (s .tree .elems) c 0 in
         let U = L .untouched in
         let three : (k : ℕ) → count k (l ∷ (id ∷ (r ∷ []))) ≤ count k (id ∷ []) + (count k (l ∷ []) + count k (r ∷ [])) =
@@ -257,7 +253,7 @@ module _ {w : List ℕ} {id c : ℕ} (l r m : ℕ)
         (first-less (right-in QR) someR) (omega arith) (omega arith) (s .counts .0)
 
     pub right-lends : Lends w id c (frontOf r) (backOf l m)
-    right-lends = rw (pair-count s l r hl hr m em) lendsR
+    right-lends = rw (pair-count s c (omega arith) l hl m em) lendsR
 
     pub right-lent : (w′ : List ℕ)
         → ((q : Lends w id c (frontOf r) (backOf l m)) → Lent w w′ id c (frontOf r) (backOf l m) (q .lender .seated .node)
@@ -265,7 +261,7 @@ module _ {w : List ℕ} {id c : ℕ} (l r m : ℕ)
         → Reshaped w w′ (suc hR) (s .tree) (s .free) (borrowRight hR (s .tree) c) (s .free)
     unfolding lendsR lends-of borrowRight
     right-lent w′ lent =
-        let L = (rw (pair-count s l r hl hr m em) at lent) lendsR in
+        let L = (rw (pair-count s c (omega arith) l hl m em) at lent) lendsR in
         let e : ℕ = getD (s .tree .elems) c 0 in
         let U = L .untouched in
         let three : (k : ℕ) → count k (r ∷ (id ∷ (l ∷ []))) ≤ count k (id ∷ []) + (count k (l ∷ []) + count k (r ∷ [])) =

@@ -15,9 +15,9 @@ use Rattle.lists.proofs.Edits.{split-two, map-removeAt}
 use Rattle.model.specs.Tree.{Tree, kid, none, size}
 use Rattle.model.proofs.Nodes.{held, held-inner, held-id}
 use Rattle.pool.specs.Layout.{chainWord, idOf, rootBlock}
-use Rattle.pool.specs.Parts.{Stored, At, ChainAt, Inside, lengthAt, kidAt}
+use Rattle.pool.specs.Parts.{Stored, At, ChainAt, Inside, countAt, lengthAt, kidAt}
 use Rattle.pool.specs.Frame.{Untouched}
-use Rattle.pool.proofs.Node.{at-length}
+use Rattle.pool.proofs.Node.{at-count, at-length}
 use Rattle.pool.proofs.Frame.{chain-untouched}
 use Rattle.tree.specs.Stands.{Owns, Reshaped}
 use Rattle.tree.proofs.Edits.{KidAt, each-kid, kids-untouched, kids-reshaped, kid-readable, child-is}
@@ -29,18 +29,24 @@ module _ {P : ℕ → ℕ → Type 0} {w : List ℕ} {id c : ℕ} (s : PairReady
   pub pair-kid : Inside w id × (d < 32)
   pair-kid = kid-readable (s .owns) (s .here) (omega (arith, s .place, s .owns .fit .one-more))
 
-  module _ (k : ℕ) (e : k ≡ kidAt w id d) where
-    pub pair-is : kid (s .height) (s .tree) d .id ≡ k
-    pair-is = child-is (s .owns) (s .here) (omega (arith, s .place, s .owns .fit .one-more)) k e
+  abbrev D : Tree (s .height)
+  D = kid (s .height) (s .tree) d
 
-    here : Stored w (kid (s .height) (s .tree) d .id) (rootBlock (s .height) (kid (s .height) (s .tree) d))
-    here = s .owns .at .each d (omega (arith, s .place, s .owns .fit .one-more)) .here
+  here : Stored w (D .id) (rootBlock (s .height) D)
+  here = s .owns .at .each d (omega (arith, s .place, s .owns .fit .one-more)) .here
+
+  module _ (k : ℕ) (e : k ≡ kidAt w id d) where
+    pub pair-is : D .id ≡ k
+    pair-is = child-is (s .owns) (s .here) (omega (arith, s .place, s .owns .fit .one-more)) k e
 
     pub pair-inside : Inside w k
     pair-inside = rw (← pair-is) (here .inside)
 
-    pub pair-length : (n : ℕ) → n ≡ lengthAt w k → n ≡ size (s .height) (kid (s .height) (s .tree) d)
-    pair-length n en = rw (en, ← pair-is) (at-length w (s .height) (kid (s .height) (s .tree) d) here)
+    pub pair-count : (n : ℕ) → n ≡ countAt w k → n ≡ length (D .elems)
+    pair-count n en = rw (en, ← pair-is) (at-count w (s .height) D here)
+
+    pub pair-length : (n : ℕ) → n ≡ lengthAt w k → n ≡ size (s .height) D
+    pair-length n en = rw (en, ← pair-is) (at-length w (s .height) D here)
 
 -- ---- children c and c + 1 of t, in nodes l and r, with t itself in node i
 
