@@ -41,7 +41,7 @@ pub record Has (w : List ℕ) (h id index : ℕ) : Type 0 where
 abbrev pub Got : List ℕ → ℕ → ℕ → ℕ → Found → Type 0
 Got w h id index r = (s : Has w h id index) → r ≡ get h (s .stands .tree) index
 
--- the same of an element x and a count: what the model compares was added to n
+-- x is the element that the model finds, and n′ is n with the model's comparisons added
 pub record Counted (h : ℕ) (t : Tree h) (index n n′ x : ℕ) : Type 0 where
   pub element : x ≡ get h t index .element
   pub compared : n′ ≡ n + get h t index .compared
