@@ -9,11 +9,9 @@ use borrow.Author.Tests.{leb-true, leb-false, ltb-true, ltb-false, lt-ltb, le-lt
 use lib.Dec.{leb, ltb}
 use lib.ListN.{length, getD}
 use Rattle.records.specs.declared.Command.{Command}
-use Rattle.records.specs.declared.Next.{Next}
-use Rattle.records.specs.declared.Next.the-variants.{End, UnknownKind, CutShort, Whole}
 use Rattle.records.specs.declared.Body.{Body}
 use Rattle.records.specs.declared.Body.the-variants.{Bytes, Unknown}
-use Rattle.records.specs.Commands.{bodyOf, commandAt, wholeAt, nextAt}
+use Rattle.records.specs.Commands.{bodyOf, commandAt, Next, End, UnknownKind, CutShort, Whole, wholeAt, nextAt}
 use Rattle.records.specs.Answers.{longestRecord}
 use Rattle.records.proofs.Laws.{Listed, listed, Fits, next-end, next-whole, next-fits}
 use Rattle.commands.specs.declared.Turn.{Turn}

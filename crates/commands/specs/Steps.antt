@@ -5,10 +5,8 @@ use Prim.Native.Nat.{ℕ, zero, suc, _+_, _-_}
 use lib.Dec.{ltb}
 use lib.ListN.{length}
 use Rattle.records.specs.declared.Command.{Command}
-use Rattle.records.specs.declared.Next.{Next}
-use Rattle.records.specs.declared.Next.the-variants.{End, UnknownKind, CutShort, Whole}
 use Rattle.records.specs.declared.Record.{Record}
-use Rattle.records.specs.Commands.{nextAt}
+use Rattle.records.specs.Commands.{Next, End, UnknownKind, CutShort, Whole, nextAt}
 use Rattle.records.specs.Answers.{recordBytes, longestRecord}
 use Rattle.commands.specs.declared.Turn.{Turn}
 use Rattle.commands.specs.declared.Turn.the-variants.{Stop, Run}

@@ -6,9 +6,9 @@ ghost use Rattle.commands.specs.Steps.{turnAt, batchOf};
 ghost use Rattle.commands.specs.OnBag.{perform, replyTo, onBag, Runs};
 use calls::Done;
 use model::Answer;
+use records::Body;
 use records::Command;
 use records::LONGEST_RECORD;
-use records::Next;
 use records::Record;
 use tree::Known;
 
@@ -27,22 +27,24 @@ pub enum Turn {
     Run(Command, usize),
 }
 
-// The turn at a place of the input, with so many output bytes left.
+// The turn at a place of the input, with so many output bytes left: the stops in 01's order.
 fn turn_at(input: &[u8], at: usize, room: usize) -> Turn
     ensures { λ r. ⌜ r ≡ turnAt (now (input .entry)) at room ⌝ }
 {
-    let next = records::next_at(input, at);
-    match next {
-        Next::End => Turn::Stop(0),
-        Next::UnknownKind => Turn::Stop(5),
-        Next::CutShort => Turn::Stop(6),
-        Next::Whole(c, n) => {
-            if room < LONGEST_RECORD {
-                return Turn::Stop(7);
-            }
-            Turn::Run(c, n)
-        }
+    if input.len() <= at {
+        return Turn::Stop(0);
     }
+    let body = records::body_length(input[at]);
+    let Body::Bytes(n) = body else {
+        return Turn::Stop(5);
+    };
+    if input.len() - at - 1 < n {
+        return Turn::Stop(6);
+    }
+    if room < LONGEST_RECORD {
+        return Turn::Stop(7);
+    }
+    Turn::Run(records::read_command(input, at), n + 1)
 }
 
 // One command on a pool that is known to hold a bag.

@@ -14,7 +14,7 @@ use Rattle.words.specs.Words.{run}
 use Rattle.words.proofs.Laws.{run-cons}
 use Rattle.records.specs.Numbers.{bytesOf, numberOf, numberAt}
 use borrow.Author.Tests.{eqb-true, eqb-false, leb-true, le-leb, lt-leb}
-use Rattle.records.specs.Commands.{bodyOf, commandAt, Stands, wholeAt, nextAt}
+use Rattle.records.specs.Commands.{bodyOf, commandAt, Stands, Next, End, UnknownKind, CutShort, Whole, wholeAt, nextAt}
 use Rattle.records.specs.declared.Body.{Body}
 use Rattle.records.specs.declared.Body.the-variants.{Bytes, Unknown}
 use Rattle.records.specs.Answers.{recordBytes, longestRecord}
@@ -22,8 +22,6 @@ use Rattle.records.specs.declared.Record.{Record}
 use Rattle.records.specs.declared.Record.the-variants.{Done, Element, Length, Refusal, Got}
 use Rattle.records.specs.declared.Command.{Command}
 use Rattle.records.specs.declared.Command.the-variants.{Insert, Remove, Push, Get, Replace, Len}
-use Rattle.records.specs.declared.Next.{Next}
-use Rattle.records.specs.declared.Next.the-variants.{End, UnknownKind, CutShort, Whole}
 
 pub bytes-length : (n x : ℕ) → length (bytesOf n x) ≡ n
 unfolding bytesOf

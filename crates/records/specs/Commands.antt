@@ -9,8 +9,6 @@ use Rattle.records.specs.declared.Body.{Body}
 use Rattle.records.specs.declared.Body.the-variants.{Bytes, Unknown}
 use Rattle.records.specs.declared.Command.{Command}
 use Rattle.records.specs.declared.Command.the-variants.{Insert, Remove, Push, Get, Replace, Len}
-use Rattle.records.specs.declared.Next.{Next}
-use Rattle.records.specs.declared.Next.the-variants.{End, UnknownKind, CutShort, Whole}
 use Rattle.records.specs.Numbers.{numberAt}
 
 -- what a table has for a kind, or else
@@ -43,6 +41,11 @@ commandAt s at =
 pub record Stands (s : List ℕ) (at : ℕ) : Type 0 where
   pub kind : at < length s
   pub body : (n : ℕ) → bodyOf (getD s at 0) ≡ Bytes n → at + 1 + n ≤ length s
+
+-- a place's own answer; a whole command has its length in bytes with it
+pub data Next : Type 0 where
+  End UnknownKind CutShort : Next
+  Whole : Command → ℕ → Next
 
 abbrev pub wholeAt : List ℕ → ℕ → Body → Next
 wholeAt s at Unknown = UnknownKind

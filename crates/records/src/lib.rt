@@ -5,7 +5,7 @@ ghost use Prim.Native.Nat.{_+_, _≤_, _<_};
 ghost use lib.ListN.{length};
 ghost use lib.Seq.{sets};
 ghost use Rattle.records.specs.Numbers.{bytesOf, numberAt};
-ghost use Rattle.records.specs.Commands.{bodyOf, commandAt, Stands, nextAt};
+ghost use Rattle.records.specs.Commands.{bodyOf, commandAt, Stands};
 ghost use Rattle.records.specs.Answers.{recordBytes, longestRecord};
 
 // The length of 85's record, which is the longest.
@@ -24,14 +24,6 @@ pub enum Command {
     Get(u64),
     Replace(u64, u64),
     Len,
-}
-
-// What stands at a place of the input; a whole command with its length in bytes.
-pub enum Next {
-    End,
-    UnknownKind,
-    CutShort,
-    Whole(Command, usize),
 }
 
 // What a batch answers to a command.
@@ -94,7 +86,7 @@ pub fn body_length(kind: u8) -> Body
 }
 
 // The command at a place where a whole one stands.
-fn read_command(s: &[u8], at: usize) -> Command
+pub fn read_command(s: &[u8], at: usize) -> Command
     requires { ⌜ Stands (now s) at ⌝ }
     ensures { λ r. ⌜ r ≡ commandAt (now (s .entry)) at ⌝ }
 {
@@ -107,23 +99,6 @@ fn read_command(s: &[u8], at: usize) -> Command
         5 => Command::Replace(read_number(s, at + 1, 4), read_number(s, at + 5, 8)),
         _ => Command::Len,
     }
-}
-
-// What stands at a place of the input.
-pub fn next_at(s: &[u8], at: usize) -> Next
-    ensures { λ r. ⌜ r ≡ nextAt (now (s .entry)) at ⌝ }
-{
-    if s.len() <= at {
-        return Next::End;
-    }
-    let body = body_length(s[at]);
-    let Body::Bytes(n) = body else {
-        return Next::UnknownKind;
-    };
-    if s.len() - at - 1 < n {
-        return Next::CutShort;
-    }
-    Next::Whole(read_command(s, at), n + 1)
 }
 
 // Writes a kind, then x in n bytes and y in m, and gives the place after them.
