@@ -11,15 +11,15 @@ use Rattle.model.specs.Tree.{Bag}
 use Rattle.pool.specs.Sound.{Holds}
 use Rattle.tree.specs.declared.Known.{Known}
 use Rattle.tree.specs.Stands.{knownOf}
-use Rattle.calls.specs.declared.Done.{Done}
-use Rattle.calls.specs.Does.{Ready, Does}
+use Rattle.calls.specs.Does.{Ready}
 use Rattle.records.specs.declared.Command.{Command}
-use Rattle.records.specs.declared.Record.{Record}
 use Rattle.records.specs.Answers.{recordBytes}
 use Rattle.records.proofs.Laws.{record-length}
 use Rattle.commands.specs.declared.Turn.the-variants.{Stop, Run}
+use Rattle.commands.specs.declared.Served.{Served}
 use Rattle.commands.specs.Steps.{turnAt, batchFrom, batchOf}
-use Rattle.commands.specs.OnBag.{perform, replyTo, onBag, Runs}
+use Rattle.commands.specs.OnBag.{onBag, Runs}
+use Rattle.commands.specs.Serving.{Serves}
 use Rattle.commands.proofs.Turns.{Runnable, runnable, batch-stops, batch-goes}
 
 -- a batch from bag b that has come so far: the bag that the pool w holds, the answers in the output o, and the turns left
@@ -80,24 +80,23 @@ module _ {b : Bag} {input out w o : List ℕ} {k : Known} {commands read written
     pub can-run : Runnable input read (length o - written) (Run c n)
     can-run = subst (Runnable input read (length o - written)) e (runnable input read (length o - written))
 
-    pub goes : {d : Done} {w′ o′ : List ℕ} {written′ : ℕ} (r : Record) → Does (perform c) (G .bag) d w′ → r ≡ replyTo c (d .answer)
-        → written′ ≡ written + length (recordBytes r) → o′ ≡ sets o written (recordBytes r)
-        → Going b input out w′ o′ (d .known) (commands + 1) (read + n) written′
-    unfolding onBag
-    goes {d} {w′} {o′} {written′} r D f g h =
-        let q : r ≡ onBag c (G .bag) .answer = f ∙ ap (replyTo c) (D .answer) in
-        let a : length (G .answers ++ recordBytes r) ≡ length (G .answers) + length (recordBytes r) = length-append (G .answers) (recordBytes r) in
+    pub goes : {r : Served} {w′ o′ : List ℕ} {written′ : ℕ} → Serves (onBag c (G .bag)) r w′
+        → written′ ≡ written + length (recordBytes (r .answer)) → o′ ≡ sets o written (recordBytes (r .answer))
+        → Going b input out w′ o′ (r .known) (commands + 1) (read + n) written′
+    goes {r} {w′} {o′} {written′} S g h =
+        let new = recordBytes (r .answer) in
+        let a : length (G .answers ++ new) ≡ length (G .answers) + length new = length-append (G .answers) new in
         record {
           bag = onBag c (G .bag) .state;
-          answers = G .answers ++ recordBytes r;
+          answers = G .answers ++ new;
           left = G .left - 1;
-          holds = D .holds;
-          known = D .known;
-          output = h ∙ rw (sets-append out 0 (G .answers) (recordBytes r), G .output, zero-add, ← (G .place));
+          holds = S .holds;
+          known = S .known;
+          output = h ∙ rw (sets-append out 0 (G .answers) new, G .output, zero-add, ← (G .place));
           place = omega (arith, G .place);
-          fits = omega (arith, record-length r, same-room, can-run .2);
+          fits = omega (arith, record-length (r .answer), same-room, can-run .2);
           few = omega (arith, G .few, can-run .0);
           inside = can-run .1;
           enough = omega (arith, G .enough, can-run .0);
-          same = rw q (sym (batch-goes onBag input (length out) _ (G .left) (G .enough) c n (rw room at e)) ∙ G .same);
+          same = rw (S .answer) (sym (batch-goes onBag input (length out) _ (G .left) (G .enough) c n (rw room at e)) ∙ G .same);
         }

@@ -1,11 +1,14 @@
 // The commands of a batch, one after the other, on a pool that is known to hold a bag.
 ghost use mathlib.Core.Path.{_≡_};
+ghost use mathlib.Core.Bool.{cond};
+ghost use lib.Dec.{eqb};
 ghost use lib.ListN.{length};
-ghost use Rattle.calls.specs.Does.{Ready, Does};
+ghost use Rattle.calls.specs.Does.{Ready};
+ghost use Rattle.records.specs.declared.Record.the-variants.{Refusal};
 ghost use Rattle.commands.specs.Steps.{turnAt, batchOf};
-ghost use Rattle.commands.specs.OnBag.{perform, replyTo, onBag, Runs};
+ghost use Rattle.commands.specs.OnBag.{onBag, Runs};
+ghost use Rattle.commands.specs.Serving.{Serves};
 use calls::Done;
-use model::Answer;
 use records::Body;
 use records::Command;
 use records::LONGEST_RECORD;
@@ -25,6 +28,12 @@ pub struct Ran {
 pub enum Turn {
     Stop(u64),
     Run(Command, usize),
+}
+
+// What answers a command, and what is known of the bag then.
+pub struct Served {
+    pub answer: Record,
+    pub known: Known,
 }
 
 // The turn at a place of the input, with so many output bytes left: the stops in 01's order.
@@ -47,41 +56,51 @@ fn turn_at(input: &[u8], at: usize, room: usize) -> Turn
     Turn::Run(records::read_command(input, at), n + 1)
 }
 
-// One command on a pool that is known to hold a bag.
-fn perform(pool: &mut [u64], known: Known, c: Command) -> Done
-    requires { ⌜ Ready (now pool) known ⌝ }
-    ensures { λ r. ⌜ ((s : Ready (now (pool .entry)) known) → Does (perform c) (s .bag) r (now (pool .exit))) ⌝ }
+// The record of what a call answers: a refusal's number, or what a command that was done gives.
+fn reply(d: Done, done: Record) -> Served
+    ensures { λ r. ⌜ r .answer ≡ cond (eqb (d .answer .number) 0) done (Refusal (d .answer .number)) ⌝ }
+    ensures { λ r. ⌜ r .known ≡ d .known ⌝ }
 {
-    match c {
-        Command::Insert(i, x) => calls::insert(pool, known, i, x),
-        Command::Remove(i) => calls::remove(pool, known, i),
-        Command::Push(x) => calls::push(pool, known, x),
-        Command::Get(i) => Done {
-            answer: calls::get(pool, known, i),
+    let known = d.known;
+    if d.answer.number != 0 {
+        return Served {
+            answer: Record::Refusal(d.answer.number),
             known,
-        },
-        Command::Replace(i, x) => calls::replace(pool, known, i, x),
-        Command::Len => Done {
-            answer: calls::give(calls::len(pool, known)),
-            known,
-        },
+        };
+    }
+    Served {
+        answer: done,
+        known,
     }
 }
 
-// The record that answers a command.
-fn reply_to(c: Command, a: Answer) -> Record
-    ensures { λ r. ⌜ r ≡ replyTo c a ⌝ }
+// One command on a pool that is known to hold a bag.
+fn serve(pool: &mut [u64], known: Known, c: Command) -> Served
+    requires { ⌜ Ready (now pool) known ⌝ }
+    ensures { λ r. ⌜ ((s : Ready (now (pool .entry)) known) → Serves (onBag c (s .bag)) r (now (pool .exit))) ⌝ }
 {
-    if a.number != 0 {
-        return Record::Refusal(a.number);
-    }
     match c {
-        Command::Insert(_, _) => Record::Done,
-        Command::Remove(_) => Record::Element(a.value),
-        Command::Push(_) => Record::Done,
-        Command::Get(_) => Record::Got(a.value, a.compared),
-        Command::Replace(_, _) => Record::Element(a.value),
-        Command::Len => Record::Length(a.value),
+        Command::Insert(i, x) => reply(calls::insert(pool, known, i, x), Record::Done),
+        Command::Remove(i) => {
+            let d = calls::remove(pool, known, i);
+            reply(d, Record::Element(d.answer.value))
+        }
+        Command::Push(x) => reply(calls::push(pool, known, x), Record::Done),
+        Command::Get(i) => {
+            let answer = calls::get(pool, known, i);
+            reply(
+                Done { answer, known },
+                Record::Got(answer.value, answer.compared),
+            )
+        }
+        Command::Replace(i, x) => {
+            let d = calls::replace(pool, known, i, x);
+            reply(d, Record::Element(d.answer.value))
+        }
+        Command::Len => Served {
+            answer: Record::Length(calls::len(pool, known)),
+            known,
+        },
     }
 }
 
@@ -108,9 +127,10 @@ pub fn run(pool: &mut [u64], known: Known, input: &[u8], output: &mut [u8]) -> R
                 };
             }
             Turn::Run(c, n) => {
-                let d = perform(pool, k, c);
-                written = records::write_record(output, written, reply_to(c, d.answer));
-                k = d.known;
+                let served = serve(pool, k, c);
+                let answer = served.answer;
+                written = records::write_record(output, written, answer);
+                k = served.known;
                 commands += 1;
                 read += n;
             }

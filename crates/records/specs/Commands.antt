@@ -42,7 +42,7 @@ pub record Stands (s : List ℕ) (at : ℕ) : Type 0 where
   pub kind : at < length s
   pub body : (n : ℕ) → bodyOf (getD s at 0) ≡ Bytes n → at + 1 + n ≤ length s
 
--- a place's own answer; a whole command has its length in bytes with it
+-- what can stand at a place of the input
 pub data Next : Type 0 where
   End UnknownKind CutShort : Next
   Whole : Command → ℕ → Next

@@ -42,18 +42,18 @@ runs c =
     (f .0, f .1, f .2, going l .few, l .before .before .before .before .good .1 .1 .0 .0)
 
 abbrev added : (c : tie.After-k Inv-loop μ-loop) → tie.After-known-told2 Inv-loop μ-loop
-added c = c .before .before .before .before .before .before .before .before .before .before
+added c = c .before .before .before .before .before .before .before .before .before
 
 loop-again : tie.Need-loop-again Inv-loop μ-loop
 loop-again c =
     let r = c .before .before .before in
-    let t = r .before .before .before .before .before in
+    let t = r .before .before .before .before in
     let l = t .before .before .before .before .before .before in
     let e = sym (t .before .before .before .before .before .turn-at .ensures) ∙ t .before .before .before .turn2 .given .1 in (
-      t .perform .kept .0 ∙ l .loop .inv .0,
+      t .serve .kept .0 ∙ l .loop .inv .0,
       λ s.
           let G = l .loop .inv .1 s in
-          goes G _ _ e _ (t .perform .ensures (now-ready G)) (r .before .reply-to .ensures) (r .write-record .ensures .0) (r .write-record .ensures .1),
+          goes G _ _ e (t .serve .ensures (now-ready G)) (r .write-record .ensures .0) (r .write-record .ensures .1),
     )
 
 pub run-spec : {M : Type 1} → statement M
@@ -61,6 +61,6 @@ run-spec =
     tie.close
     (tie.spec Inv-loop μ-loop (λ c. (refl, λ s. begins s _ _)) (λ c. omega (arith, going c .fits, same-room (going c))) (λ c κs. search needs)
     (λ c. search needs) (λ c. c .before .before .before .before .loop .inv .0) (λ c. same-room (going (c .before .before .before .before))) returns
-    (λ c. search needs) (λ c κs. now-ready (going (c .before .before .before .before .before))) (λ c κs. search needs)
-    (λ c κs. omega (arith, runs (c .before .before .before .before .before .before))) (λ c. omega (arith, runs (added c)))
+    (λ c. search needs) (λ c κs. now-ready (going (c .before .before .before .before .before)))
+    (λ c κs. omega (arith, runs (c .before .before .before .before .before))) (λ c. omega (arith, runs (added c)))
     (λ c. omega (arith, runs (added c))) (λ c. omega (arith, runs (added c))) loop-again)
