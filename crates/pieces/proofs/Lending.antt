@@ -8,11 +8,13 @@ use Rattle.lists.specs.Lists.{count, insertAt, removeAt}
 use Rattle.lists.proofs.Edits.{length-insertAt, length-removeAt}
 use Rattle.lists.proofs.Counts.{count-other, one-other}
 use Rattle.pool.specs.Layout.{withBlock, nodeBlock}
+use Rattle.pool.specs.Parts.{kidAt}
 use Rattle.pool.specs.Frame.{Untouched}
 use Rattle.pool.proofs.Blocks.{length-nodeBlock}
 use Rattle.pool.proofs.Frame.{stored-untouched, untouched-both, Wrote, wrote}
 use Rattle.tree.specs.Node.{Node}
 use Rattle.tree.specs.Lookup.{HasElement, Swapped}
+use Rattle.tree.proofs.Standing.{node-kid-at}
 use Rattle.tree.proofs.Edits.{node-untouched}
 use Rattle.pieces.specs.declared.Piece.{Piece}
 use Rattle.pieces.specs.declared.End.{End}
@@ -20,7 +22,7 @@ use Rattle.pieces.specs.Pieces.{Seated, Takes, TookOut, Puts, putIn, len
 
 -- a node after an edit of others
 abbrev pub seated-kept : {w w′ own : List ℕ} {k : ℕ} → Untouched w w′ own → count k own ≡ 0 → Seated w k → Seated w′ k
-seated-kept U z s = record { node = node-untouched U z (s .node); seats = s .seats }
+seated-kept U z s = record { node = node-untouched U z (s .node); seats = s .seats; leaf = s .leaf }
 
 module _ {w : List ℕ} {id c : ℕ} {from to : End} (s : Lends w id c from to)
     (r : ℕ) (er : (q : HasSlot w (from .node) (from .kid)) → r ≡ lengthOr w (getD (q .seated .node .kids) (from .kid) 0)) where
@@ -90,6 +92,10 @@ module _ {w : List ℕ} {id c : ℕ} {from to : End} (s : Lends w id c from to)
         room = s .room;
         small = omega (arith, s .small, is);
       }
+
+      pub lend-leaf : p .kid ≡ 0 → kidAt w₂ (to .node) 0 ≡ 0
+      unfolding lend-put
+      lend-leaf z = node-kid-at (lend-put .seated .node) 0 (omega arith) ∙ s .alike (sym (T .kid) ∙ z)
 
       pub lent : (w₃ : List ℕ)
           → ((q : Puts w₂ (to .node) (to .elem) (to .kid) (r + 1)) → w₃ ≡ withBlock w₂ (to .node)

@@ -1,16 +1,18 @@
 -- A node's words after a piece is taken out of it or put into it, and after another node's words are put behind its own.
 use mathlib.Core.Path.{_≡_, refl, sym, ap, _∙_}
-use mathlib.Core.List.{List, [], _∷_, _++_}
-use mathlib.Core.Logic.{_≢_}
+use mathlib.Core.List.{List, [], _∷_, _++_, append-assoc}
+use mathlib.Core.Logic.{_≢_, _⊎_, ⊎-elim}
 use Prim.Native.Nat.{ℕ, zero, suc, _+_, _-_, _^_, _≤_, _<_}
+use native.Mathlib.Nat.{zero-add, suc-add}
 use native.Mathlib.Omega.{arith}
 use borrow.Rule.Slice.PartMut.{putMid}
-use lib.ListN.{length, getD, set, length-append}
+use lib.ListN.{length, getD, set, replicate, length-append}
 use lib.Seq.{sets, append-snoc}
 use Rattle.lists.specs.Lists.{insertAt, removeAt}
+use Rattle.lists.proofs.All.{All, nil, cons, all-append, all-take, all-drop, all-of}
 use Rattle.lists.proofs.Edits.{length-insertAt, length-removeAt}
 use Rattle.words.specs.Words.{run}
-use Rattle.pool.specs.Layout.{nodeWords, start, withBlock, slots, nodeBlock}
+use Rattle.pool.specs.Layout.{nodeWords, start, block, withBlock, slots, nodeBlock}
 use Rattle.pool.specs.Parts.{Inside, countAt, lengthAt, kidAt}
 use Rattle.pool.proofs.Block.{block-other}
 use Rattle.pool.proofs.Blocks.{length-slots}
@@ -19,7 +21,7 @@ use Rattle.pool.proofs.Slots.{parts}
 use Rattle.pool.proofs.Areas.{Area, elem-area, kid-area, length-parts, area-word, area-read, area-append, area-open, area-close}
 use Rattle.tree.specs.Node.{Node}
 use Rattle.tree.proofs.Standing.{node-count, node-size, lent, lent-count, lent-length, node-kid-at}
-use Rattle.pieces.specs.Pieces.{Takes, TookOut, Puts, putIn, Joins, lengthOr, HasSlot}
+use Rattle.pieces.specs.Pieces.{Seated, Takes, TookOut, Puts, putIn, Joins, lengthOr, HasSlot}
 
 -- a node has the length that its words say
 pub some-node : (w : List ℕ) (k : ℕ) → k ≢ 0 → lengthAt w k ≡ lengthOr w k
@@ -27,16 +29,40 @@ unfolding lengthOr
 some-node w zero n = absurd (n refl)
 some-node w (suc k) n = refl
 
+-- ---- a leaf's child slots
+
+abbrev Zeros : List ℕ → Type 0
+Zeros = All (λ (z : ℕ). z ≡ 0)
+
+leaf-zeros : {w : List ℕ} {k : ℕ} (s : Seated w k) → getD (s .node .kids) 0 0 ≡ 0 → Zeros (s .node .kids)
+leaf-zeros s e = all-of 0 (s .node .kids) (s .leaf e)
+
+-- zeros behind a list are its unused slots
+zeros-behind : (n : ℕ) (xs : List ℕ) {zs : List ℕ} → Zeros zs → length xs + length zs ≤ n → slots n (xs ++ zs) ≡ slots n xs
+unfolding slots
+zeros-behind n xs {zs} Z l =
+    let e : length zs + (n - length (xs ++ zs)) ≡ n - length xs = omega (arith, length-append xs zs) in
+    append-assoc xs zs (replicate (n - length (xs ++ zs)) 0) ∙ ap (λ (ys : List ℕ). xs ++ ys) (rw (← e) (all-zeros Z (n - length (xs ++ zs))))
+  where
+    all-zeros : {zs : List ℕ} → Zeros zs → (m : ℕ) → zs ++ replicate m 0 ≡ replicate (length zs + m) 0
+    all-zeros nil m = rw zero-add
+    all-zeros (cons {xs = zs} e Z) m = rw (e, suc-add (length zs) m) (ap (λ (ys : List ℕ). 0 ∷ ys) (all-zeros Z m))
+
+-- so that they look alike in a leaf, however many there are
+zeros-alike : {xs ys : List ℕ} → Zeros xs → Zeros ys → length xs ≤ 32 → length ys ≤ 32 → slots 32 xs ≡ slots 32 ys
+zeros-alike X Y l m = zeros-behind 32 [] X (omega arith) ∙ sym (zeros-behind 32 [] Y (omega arith))
+
 -- ---- a piece taken out, and one put in
 
 module _ {w : List ℕ} {k i j n : ℕ} (s : Takes w k i j n) (a : ℕ) (ea : a ≡ start k) (x y : ℕ) (b₁ b₂ : List ℕ) where
   pub took-out : (x ≡ getD (part w a) (2 + i) 0)
       × (b₁ ≡ sets (part w a) (2 + i) (run (part w a) (2 + i + 1) (2 + getD (part w a) 0 0 - (2 + i) - 1) ++ (0 ∷ [])))
-      → (y ≡ getD b₁ (33 + j) 0)
-      × (b₂ ≡ sets b₁ (33 + j) (run b₁ (33 + j + 1) (33 + getD (part w a) 0 0 + 1 - (33 + j) - 1) ++ (0 ∷ [])))
+      → ((y ≡ getD b₁ (33 + j) 0)
+      × (b₂ ≡ sets b₁ (33 + j) (run b₁ (33 + j + 1) (33 + getD (part w a) 0 0 + 1 - (33 + j) - 1) ++ (0 ∷ []))))
+      ⊎ ((getD b₁ 33 0 ≡ 0) × (y ≡ 0) × (b₂ ≡ b₁))
       → TookOut w (putMid a (a + nodeWords - a) w (set (set b₂ 0 (getD (part w a) 0 0 - 1)) 1 (getD (part w a) 1 0 - n))) k i j n
       (s .seated .node) (record { elem = x; kid = y })
-  unfolding nodeBlock
+  unfolding nodeBlock removeAt
   took-out p q =
       let m = s .seated .node in
       let fe = m .few-elems in
@@ -51,23 +77,36 @@ module _ {w : List ℕ} {k i j n : ℕ} (s : Takes w k i j n) (a : ℕ) (ea : a 
       let count = lent-count m a ea in
       let one : b₁ ≡ parts (length (m .elems)) (m .size) (slots 31 is) (slots 32 (m .kids)) 0 =
       p .1 ∙ rw (count, lent m a ea) (area-close E (m .elems) fe i (2 + length (m .elems)) (s .elem) refl) in
-      let two : b₂ ≡ parts (length (m .elems)) (m .size) (slots 31 is) (slots 32 js) 0 =
-      q .1 ∙ rw (count, one) (area-close K (m .kids) (m .few-kids) j (33 + length (m .elems) + 1) (omega (arith, s .kid)) (omega arith)) in
+      let slot : (c : ℕ) → c < 32 → getD b₁ (33 + c) 0 ≡ getD (m .kids) c 0 = (λ c l. rw one (area-word K (m .kids) (m .few-kids) c l)) in
+      let two : (y ≡ getD (m .kids) j 0) × (b₂ ≡ parts (length (m .elems)) (m .size) (slots 31 is) (slots 32 js) 0) =
+      ⊎-elim
+      (λ r. (
+        r .0 ∙ slot j (omega (arith, s .kid)),
+        r .1 ∙ rw (count, one) (area-close K (m .kids) (m .few-kids) j (33 + length (m .elems) + 1) (omega (arith, s .kid)) (omega arith)),
+      ))
+      (λ r.
+      let first : getD (m .kids) 0 0 ≡ 0 = sym (slot 0 (omega arith)) ∙ r .0 in
+      let Z = leaf-zeros (s .seated) first in (
+        r .1 ∙ sym (s .seated .leaf first j (omega (arith, s .kid))),
+        r .2 ∙ one ∙ ap (λ (z : List ℕ). parts (length (m .elems)) (m .size) (slots 31 is) z 0)
+            (zeros-alike Z (all-append (all-take j Z) (all-drop (suc j) Z)) (m .few-kids) (omega arith)),
+      )) q in
       let less : length (m .elems) - 1 ≡ length is = omega arith in
       record {
         elem = p .0 ∙ rw (lent m a ea) (area-word E (m .elems) fe i (omega (arith, s .elem)));
-        kid = q .0 ∙ rw one (area-word K (m .kids) (m .few-kids) j (omega (arith, s .kid)));
-        words = rw (count, lent-length m a ea, two, less)
+        kid = two .0;
+        words = rw (count, lent-length m a ea, two .1, less)
             (block-put w a k ea (parts (length is) (m .size - n) (slots 31 is) (slots 32 js) 0) (m .stored .inside)
             (length-parts (length is) (m .size - n) (slots 31 is) (slots 32 js) si (length-slots 32 js (omega arith))));
       }
 
-module _ {w : List ℕ} {k i j n : ℕ} (s : Puts w k i j n) (a : ℕ) (ea : a ≡ start k) (x y : ℕ) (b₁ b₂ : List ℕ) where
+module _ {w : List ℕ} {k i j n : ℕ} (s : Puts w k i j n) (a : ℕ) (ea : a ≡ start k) (x y : ℕ) (leaf : y ≡ 0 → kidAt w k 0 ≡ 0)
+    (b₁ b₂ : List ℕ) where
   pub put-in : b₁ ≡ sets (part w a) (2 + i) (x ∷ run (part w a) (2 + i) (2 + getD (part w a) 0 0 - (2 + i)))
-      → b₂ ≡ sets b₁ (33 + j) (y ∷ run b₁ (33 + j) (33 + getD (part w a) 0 0 + 1 - (33 + j)))
+      → (b₂ ≡ sets b₁ (33 + j) (y ∷ run b₁ (33 + j) (33 + getD (part w a) 0 0 + 1 - (33 + j)))) ⊎ ((y ≡ 0) × (b₂ ≡ b₁))
       → putMid a (a + nodeWords - a) w (set (set b₂ 0 (getD (part w a) 0 0 + 1)) 1 (getD (part w a) 1 0 + n))
       ≡ withBlock w k (putIn (s .seated .node) i j x y n)
-  unfolding nodeBlock
+  unfolding nodeBlock insertAt
   put-in p q =
       let m = s .seated .node in
       let fe = m .few-elems in
@@ -83,8 +122,14 @@ module _ {w : List ℕ} {k i j n : ℕ} (s : Puts w k i j n) (a : ℕ) (ea : a �
       let one : b₁ ≡ parts (length (m .elems)) (m .size) (slots 31 is) (slots 32 (m .kids)) 0 =
       p ∙ rw (count, lent m a ea) (area-open E (m .elems) fe i (2 + length (m .elems)) x (s .elem) (omega (arith, s .room)) refl) in
       let two : b₂ ≡ parts (length (m .elems)) (m .size) (slots 31 is) (slots 32 js) 0 =
-      q ∙ rw (count, one) (area-open K (m .kids) (m .few-kids) j (33 + length (m .elems) + 1) y (omega (arith, s .kid)) (omega (arith, s .room))
-      (omega arith)) in
+      ⊎-elim
+      (λ r.
+      r ∙ rw (count, one) (area-open K (m .kids) (m .few-kids) j (33 + length (m .elems) + 1) y (omega (arith, s .kid)) (omega (arith, s .room))
+      (omega arith)))
+      (λ r.
+      let Z = leaf-zeros (s .seated) (sym (node-kid-at m 0 (omega arith)) ∙ leaf (r .0)) in
+      r .1 ∙ one ∙ ap (λ (z : List ℕ). parts (length (m .elems)) (m .size) (slots 31 is) z 0)
+      (zeros-alike Z (all-append (all-take j Z) (cons (r .0) (all-drop j Z))) (m .few-kids) (omega (arith, s .room)))) q in
       rw (count, lent-length m a ea, two, ← li)
       (block-put w a k ea (parts (length is) (m .size + n) (slots 31 is) (slots 32 js) 0) (m .stored .inside)
       (length-parts (length is) (m .size + n) (slots 31 is) (slots 32 js) si (length-slots 32 js (omega (arith, s .room)))))
@@ -133,17 +178,13 @@ module _ {w : List ℕ} {l r : ℕ} (s : Joins w l r) (a b : ℕ) (ea : a ≡ st
   abbrev R : Node w r
   R = s .right .node
 
-  -- a run of the right node, with other words in the left one
+  -- the right node, with other words in the left one; and a run of it
+  elsewhere : (X : List ℕ) → length X ≡ nodeWords → block (withBlock w l X) r ≡ block w r
+  elsewhere X e = block-other w l X e r (R .stored .inside .some) (L .stored .inside .some) (λ q. s .apart (sym q))
+
   fetched : (X : List ℕ) → length X ≡ nodeWords → (o n : ℕ) → o + n ≤ nodeWords
       → run (withBlock w l X) (b + o) n ≡ run (nodeBlock (R .size) (R .elems) (R .kids)) o n
-  fetched X e o n m =
-      let ne : r ≢ l = λ q. s .apart (sym q) in
-      rw (
-        eb,
-        run-block (withBlock w l X) r o n m,
-        block-other w l X e r (R .stored .inside .some) (L .stored .inside .some) ne,
-        R .stored .is,
-      )
+  fetched X e o n m = rw (eb, run-block (withBlock w l X) r o n m, elsewhere X e, R .stored .is)
 
   -- words put behind those of the left node that are kept in an area
   behind : {B : List ℕ → List ℕ} {o n : ℕ} (A : Area B o n) (xs ys : List ℕ) (at : ℕ) → length (B (slots n xs)) ≡ nodeWords
@@ -161,7 +202,7 @@ module _ {w : List ℕ} {l r : ℕ} (s : Joins w l r) (a b : ℕ) (ea : a ≡ st
 
   all-behind : (x : ℕ) (w₁ w₂ : List ℕ)
       → w₁ ≡ sets (set w (a + 2 + m) x) (a + 2 + m + 1) (run (set w (a + 2 + m) x) (b + 2) n)
-      → w₂ ≡ sets w₁ (a + 33 + m + 1) (run w₁ (b + 33) (n + 1))
+      → (w₂ ≡ sets w₁ (a + 33 + m + 1) (run w₁ (b + 33) (n + 1))) ⊎ ((kidAt w₁ r 0 ≡ 0) × (w₂ ≡ w₁))
       → set (set w₂ (a + 0) (m + n + 1)) (a + 1) (L .size + R .size + 1)
       ≡ withBlock w l (nodeBlock (L .size + R .size + 1) (L .elems ++ (x ∷ R .elems)) (L .kids ++ R .kids))
   unfolding nodeBlock
@@ -192,15 +233,23 @@ module _ {w : List ℕ} {l r : ℕ} (s : Joins w l r) (a b : ℕ) (ea : a ≡ st
         area-read (elem-area n (R .size) (slots 32 (R .kids))) (R .elems) (R .few-elems) 2 (omega arith),
       )
       (behind E es (R .elems) (a + 2 + m + 1) (long es (L .kids) (omega arith) (L .few-kids)) (omega arith) (omega arith) (omega arith)) in
+      let Y-long = long fs (L .kids) (omega arith) (L .few-kids) in
       let kids : w₂ ≡ withBlock w l Z =
-      q ∙ rw (
+      ⊎-elim
+      (λ v.
+      v ∙ rw (
         elems,
-        fetched Y (long fs (L .kids) (omega arith) (L .few-kids)) 33 (n + 1) (omega arith),
+        fetched Y Y-long 33 (n + 1) (omega arith),
         ← (s .right .seats),
         area-read (kid-area n (R .size) (slots 31 (R .elems)) (length-slots 31 (R .elems) (R .few-elems))) (R .kids) (R .few-kids) 33 (omega arith),
       )
-      (behind K (L .kids) (R .kids) (a + 33 + m + 1) (long fs (L .kids) (omega arith) (L .few-kids)) (omega (arith, s .left .seats))
-      (omega (arith, length-append (L .kids) (R .kids))) (omega arith)) in
+      (behind K (L .kids) (R .kids) (a + 33 + m + 1) Y-long (omega (arith, s .left .seats))
+      (omega (arith, length-append (L .kids) (R .kids))) (omega arith)))
+      (λ v.
+      let first : getD (R .kids) 0 0 ≡ 0 =
+      sym (node-kid-at R 0 (omega arith)) ∙ sym (ap (λ (z : List ℕ). getD z 33 0) (elsewhere Y Y-long)) ∙ rw elems at (v .0) in
+      v .1 ∙ elems ∙ ap (λ (z : List ℕ). withBlock w l (parts m (L .size) (slots 31 fs) z 0))
+      (sym (zeros-behind 32 (L .kids) (leaf-zeros (s .right) first) (omega (arith, length-append (L .kids) (R .kids)))))) q in
       rw (
         kids,
         ea,
@@ -214,7 +263,7 @@ module _ {w : List ℕ} {l r : ℕ} (s : Joins w l r) (a b : ℕ) (ea : a ≡ st
   -- the same of what the code read
   pub appended : (x m n u v : ℕ) (w₁ w₂ : List ℕ) → m ≡ countAt w l → n ≡ countAt w r → u ≡ lengthAt w l → v ≡ lengthAt w r
       → w₁ ≡ sets (set w (a + 2 + m) x) (a + 2 + m + 1) (run (set w (a + 2 + m) x) (b + 2) n)
-      → w₂ ≡ sets w₁ (a + 33 + m + 1) (run w₁ (b + 33) (n + 1))
+      → (w₂ ≡ sets w₁ (a + 33 + m + 1) (run w₁ (b + 33) (n + 1))) ⊎ ((kidAt w₁ r 0 ≡ 0) × (w₂ ≡ w₁))
       → set (set w₂ (a + 0) (m + n + 1)) (a + 1) (u + v + 1)
       ≡ withBlock w l (nodeBlock (L .size + R .size + 1) (L .elems ++ (x ∷ R .elems)) (L .kids ++ R .kids))
   appended x m n u v w₁ w₂ em en eu ev p q =

@@ -13,10 +13,11 @@ use Rattle.tree.specs.Lookup.{HasElement}
 use Rattle.pieces.specs.declared.Piece.{Piece}
 use Rattle.pieces.specs.declared.End.{End}
 
--- a node with one child slot more than elements; in a leaf these slots are 0
+-- a node with one child slot more than elements; in a leaf, where the first is 0, they all are
 pub record Seated (w : List ℕ) (k : ℕ) : Type 0 where
   pub node : Node w k
   pub seats : length (node .kids) ≡ length (node .elems) + 1
+  pub leaf : getD (node .kids) 0 0 ≡ 0 → (c : ℕ) → c < length (node .kids) → getD (node .kids) c 0 ≡ 0
 
 -- element i and child j can be taken out of node k, and n elements of its subtree with them
 pub record Takes (w : List ℕ) (k i j n : ℕ) : Type 0 where
@@ -60,7 +61,8 @@ pub record HasSlot (w : List ℕ) (k j : ℕ) : Type 0 where
   pub place : j ≤ length (seated .node .elems)
   pub inside : getD (seated .node .kids) j 0 ≢ 0 → Inside w (getD (seated .node .kids) j 0)
 
--- a piece can go from an end of one node into the place of separator c of node id, and what stood there to an end of another
+-- a piece can go from an end of one node into the place of separator c of node id, and what stood there to an end of another;
+-- a piece without a child goes into a leaf
 pub record Lends (w : List ℕ) (id c : ℕ) (from to : End) : Type 0 where
   pub parent : HasElement w id c
   pub lender : HasSlot w (from .node) (from .kid)
@@ -72,6 +74,7 @@ pub record Lends (w : List ℕ) (id c : ℕ) (from to : End) : Type 0 where
   pub less : lengthOr w (getD (lender .seated .node .kids) (from .kid) 0) < lender .seated .node .size
   pub new-elem : to .elem ≤ length (taker .node .elems)
   pub new-kid : to .kid ≤ length (taker .node .elems) + 1
+  pub alike : getD (lender .seated .node .kids) (from .kid) 0 ≡ 0 → getD (taker .node .kids) 0 0 ≡ 0
   pub room : length (taker .node .elems) ≤ 30
   pub small : taker .node .size + lengthOr w (getD (lender .seated .node .kids) (from .kid) 0) < 2 ^ 32
 

@@ -1,9 +1,11 @@
 // Pieces of nodes: an element with a child is taken out of a node, put into one, or goes through a separator from one to another.
+// A leaf's child words are all 0, and stay so: they are not moved.
 ghost use mathlib.Core.Path.{_≡_};
 ghost use mathlib.Core.List.{_∷_, _++_};
 ghost use Prim.Native.Nat.{_+_};
 ghost use lib.ListN.{getD};
 ghost use Rattle.pool.specs.Layout.{nodeBlock, withBlock};
+ghost use Rattle.pool.specs.Parts.{kidAt};
 ghost use Rattle.pieces.specs.Pieces.{Takes, TookOut, Puts, putIn, Joins, lengthOr, HasSlot, Lends, Lent};
 use pool::COUNT;
 use pool::ELEMS;
@@ -35,15 +37,19 @@ pub fn take_out(pool: &mut [u64], k: usize, i: usize, j: usize, n: usize) -> Pie
     let m = node[COUNT] as usize;
     let s = node[LENGTH] as usize;
     let elem = words::close_gap(node, ELEMS + i, ELEMS + m);
-    let kid = words::close_gap(node, KIDS + j, KIDS + m + 1) as usize;
+    let mut kid = 0;
+    if !pool::is_leaf(node) {
+        kid = words::close_gap(node, KIDS + j, KIDS + m + 1) as usize;
+    }
     node[COUNT] = (m - 1) as u64;
     node[LENGTH] = (s - n) as u64;
     Piece { elem, kid }
 }
 
-// Puts a piece, with n elements in all, into node k as element i and child j.
+// Puts a piece, with n elements in all, into node k as element i and child j; without a child it goes into a leaf.
 fn put_in(pool: &mut [u64], k: usize, i: usize, j: usize, p: Piece, n: usize)
     requires { ⌜ Puts (now pool) k i j n ⌝ }
+    requires { ⌜ (p .kid ≡ 0 → kidAt (now pool) k 0 ≡ 0) ⌝ }
     ensures { λ _. ⌜ ((s : Puts (now (pool .entry)) k i j n)
         → now (pool .exit) ≡ withBlock (now (pool .entry)) k (putIn (s .seated .node) i j (p .elem) (p .kid) n)) ⌝ }
 {
@@ -52,7 +58,9 @@ fn put_in(pool: &mut [u64], k: usize, i: usize, j: usize, p: Piece, n: usize)
     let m = node[COUNT] as usize;
     let s = node[LENGTH] as usize;
     words::open_gap(node, ELEMS + i, ELEMS + m, p.elem);
-    words::open_gap(node, KIDS + j, KIDS + m + 1, p.kid as u64);
+    if p.kid != 0 {
+        words::open_gap(node, KIDS + j, KIDS + m + 1, p.kid as u64);
+    }
     node[COUNT] = (m + 1) as u64;
     node[LENGTH] = (s + n) as u64;
 }
@@ -71,7 +79,9 @@ pub fn append(pool: &mut [u64], l: usize, x: u64, r: usize)
     let b = pool::start_of(r);
     pool[a + ELEMS + m] = x;
     words::copy_run(pool, b + ELEMS, a + ELEMS + m + 1, n);
-    words::copy_run(pool, b + KIDS, a + KIDS + m + 1, n + 1);
+    if !pool::leaf_at(pool, r) {
+        words::copy_run(pool, b + KIDS, a + KIDS + m + 1, n + 1);
+    }
     pool[a + COUNT] = (m + n + 1) as u64;
     pool[a + LENGTH] = s as u64;
 }

@@ -1,9 +1,17 @@
 -- `lend` meets its contract: each step leaves the other two nodes as they were.
 use native.Mathlib.Omega.{arith}
 use borrow.Author.Needs.{needs}
-use Rattle.pieces.proofs.Lending.{lend-few, lend-take, lend-swap, lend-put, lent}
+use Rattle.pieces.proofs.Lending.{lend-few, lend-take, lend-swap, lend-put, lend-leaf, lent}
 use Rattle.pieces.proofs.lend.Statement.{statement}
 use Rattle.pieces.proofs.lend.Tie as tie
+
+put-in-requires : tie.Need-put-in-requires
+put-in-requires c κs =
+    let p = c .before .before .before .before .before .before .before in
+    let s = p .before .before .before .before .before .pre in
+    let r = p .before .before .length-below .ensures in
+    let x = c .before .before .before .swap-element .ensures in
+    (lend-put s _ r _ _ (p .take-out .ensures) _ _ x, lend-leaf s _ r _ _ (p .take-out .ensures) _ _ x)
 
 returns : tie.Need-returns
 returns c s =
@@ -20,8 +28,5 @@ lend-spec =
     (λ c κs. lend-swap (c .before .before .before .before .before .before .before .before .pre) _
     (c .before .before .before .before .before .length-below .ensures) _ _
     (c .before .before .before .take-out .ensures))
-    (λ c κs.
-    let p = c .before .before .before .before .before .before .before in
-    lend-put (p .before .before .before .before .before .pre) _ (p .before .before .length-below .ensures) _ _ (p .take-out .ensures) _ _
-    (c .before .before .before .swap-element .ensures))
+    put-in-requires
     (λ c. search needs) returns)

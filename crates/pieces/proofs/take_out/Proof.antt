@@ -1,7 +1,9 @@
--- `take_out` meets its contract: the two gaps closed leave the lists without the piece.
-use mathlib.Core.Path.{_≡_}
+-- `take_out` meets its contract: the two gaps closed leave the lists without the piece, and a leaf's child words are as before.
+use mathlib.Core.Path.{_≡_, sym, ap, _∙_}
+use mathlib.Core.Logic.{inl, inr, ⊎-elim}
 use native.Mathlib.Omega.{arith}
 use borrow.Author.Needs.{needs}
+use borrow.Author.Tests.{not-false, eqb-true}
 use denote.Ref.{now}
 use lib.ListN.{length, getD, length-set}
 use Rattle.pool.proofs.Store.{part}
@@ -20,28 +22,35 @@ known c =
     let e = c .start-of .ensures in
     (lent-long m _ e, lent-count m _ e, lent-length m _ e)
 
+-- the child words were closed up, or the node is a leaf
+long : (c : tie.Joined1) → length (c .if1 .node) ≡ 66
+long c =
+    let k = known (c .before .before .before .before .before .before .before .before .before .before) in
+    let l = c .before .before .before .before .before .close-gap .kept in
+    ⊎-elim (λ v. omega (arith, k, l, ap length (v .5), v .2 .kept)) (λ v. omega (arith, k, l, ap length (v .1))) (c .if1 .came)
+
 returns : tie.Need-returns
 returns c s =
-    let b = c .before .before .before .before in
-    took-out s _ (b .before .before .before .before .before .before .before .before .before .start-of .ensures) _ _ _ _
-    (b .before .before .before .before .close-gap .ensures) (b .close-gap2 .ensures)
+    let d = c .before .before in
+    let e = d .before .before .before .before .before in
+    took-out s _ (e .before .before .before .before .before .start-of .ensures) _ _ _ _ (e .close-gap .ensures)
+    (⊎-elim (λ v. inl (v .6 ∙ v .2 .ensures .0, v .5 ∙ v .2 .ensures .1))
+    (λ v. inr (eqb-true _ _ (sym (d .before .is-leaf .ensures) ∙ not-false _ (v .0 .left)), v .2, v .1)) (d .if1 .came))
 
 pub take-out-spec : {M : Type 1} → statement M
 take-out-spec =
     tie.close
     (tie.spec (λ c κs. search needs) (λ c. search needs) (λ c. search needs) (λ c. search needs) (λ c. search needs) (λ c. search needs)
     (λ c. search needs) (λ c. search needs) (λ c. search needs) (λ c. omega (arith, known (c .before .before .before .before)))
-    (λ c κs. omega (arith, known (c .before .before .before .before))) (λ c. search needs)
-    (λ c. omega (arith, known (c .before .before .before .before .before .before .before .before)))
-    (λ c. omega (arith, known (c .before .before .before .before .before .before .before .before)))
+    (λ c κs. omega (arith, known (c .before .before .before .before)))
     (λ c κs. omega (arith, known (c .before .before .before .before .before .before .before .before), c .before .before .before .close-gap .kept))
-    (λ c. omega (arith, known (c .before .before .before .before .before .before .before .before .before .before .before))) (λ c. search needs)
+    (λ c. search needs)
     (λ c. omega (arith, known (c .before .before .before .before .before .before .before .before .before .before .before)))
-    (λ c. simp length-set (omega (
-      arith,
-      known
-          (c .before .before .before .before .before .before .before .before .before .before .before),
-      c .before .before .close-gap2 .kept,
-      c .before .before .before .before .before .before .close-gap .kept,
-    )))
+    (λ c. omega (arith, known (c .before .before .before .before .before .before .before .before .before .before .before)))
+    (λ c κs.
+    let d = c .before .before .before .before .before .before in
+    omega (arith, known (d .before .before .before .before .before), d .close-gap .kept))
+    (λ c. omega (arith, known (c .before .before .before .before .before .before .before .before .before .before))) (λ c. omega (arith, long c))
+    (λ c. omega (arith, known (c .before .before .before .before .before .before .before .before .before .before)))
+    (λ c. simp length-set (omega (arith, long c)))
     (λ c. search needs) returns)
