@@ -1,12 +1,18 @@
 // Marks of the numbers from 1 on: one bit for each, in words that the caller lends.
 ghost use mathlib.Core.Path.{_≡_};
-ghost use Prim.Native.Nat.{_-_, _*_, _%_, _^_, _≤_};
+ghost use Prim.Native.Nat.{_-_, _*_, _%_, _^_, _≤_, _<_};
 ghost use lib.Dec.{eqb};
 ghost use lib.ListN.{length};
-ghost use Rattle.marks.specs.Marks.{seen, Claimed};
+ghost use Rattle.marks.specs.Marks.{seen, Claimed, TakesOut};
 
 // The marks that a word has room for.
 pub const WORD_MARKS: usize = 64;
+
+// A bit that was set in a word, and the word without it.
+pub struct Taken {
+    pub bit: usize,
+    pub rest: u64,
+}
 
 // The bit of k in its word.
 fn mask_of(k: usize) -> u64
@@ -17,7 +23,7 @@ fn mask_of(k: usize) -> u64
 }
 
 // Whether k is marked.
-pub fn is_marked(marks: &[u64], k: usize) -> bool
+fn is_marked(marks: &[u64], k: usize) -> bool
     requires { ⌜ (1 ≤ k) × (k ≤ 64 * length (now marks)) ⌝ }
     ensures { λ r. ⌜ r ≡ eqb (seen (now (marks .entry)) k) 1 ⌝ }
 {
@@ -36,4 +42,15 @@ pub fn claim(marks: &mut [u64], k: usize) -> bool
     let at = (k - 1) / WORD_MARKS;
     marks[at] = marks[at] | mask_of(k);
     true
+}
+
+// Takes the lowest bit out of a word that has one.
+pub fn lowest(word: u64) -> Taken
+    requires { ⌜ 0 < word ⌝ }
+    ensures { λ r. ⌜ TakesOut word r ⌝ }
+{
+    Taken {
+        bit: u64::trailing_zeros(word) as usize,
+        rest: word & (word - 1),
+    }
 }
