@@ -3,7 +3,7 @@ use mathlib.Core.Path.{_≡_, refl, sym, ap, ap₂, _∙_}
 use mathlib.Core.Bool.{Bool, false, false≢true}
 use mathlib.Core.List.{List, [], _∷_, map}
 use Prim.Native.Nat.{ℕ, zero, suc, _+_, _-_, _*_, _≤_, _<_}
-use native.Mathlib.Decide.{decLe, decLt}
+use native.Mathlib.Decide.{decLt}
 use native.Mathlib.Omega.{arith}
 use borrow.Author.Tests.{eq-eqb, ne-eqb}
 use lib.ListN.{length, length-map, List·getD-eq-default}
@@ -21,11 +21,6 @@ use Rattle.pool.proofs.Runs.{block-is}
 use Rattle.shape.specs.Shape.{Decides, Grown, below}
 use Rattle.shape.proofs.Growth.{tree-id, elems-long, ids-long, kids-of, all-kids, kids-all, ids-leaf, ids-inner, all-below, inside, here}
 use Rattle.sound.specs.Filled.{Clear, Readable, kidsAt, AddsUp, Filled}
-
--- ---- all numbers up to k
-
-pub each-more : (Q : ℕ → Type 0) (k : ℕ) → ((j : ℕ) → 1 ≤ j → j ≤ k → Q j) → Q (k + 1) → (j : ℕ) → 1 ≤ j → j ≤ k + 1 → Q j
-each-more Q k f q j a b = elim (decLe j k) [ yes c ↦ f j a c | no c ↦ (let e : j ≡ k + 1 = omega arith in rw e q) ]
 
 -- ---- one node
 

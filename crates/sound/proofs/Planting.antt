@@ -93,14 +93,14 @@ module _ (w : List ℕ) (p : ℕ) (exact : length w ≡ headWords + nodeWords * 
         grown : Grown w p h 1 k
         grown = shape-grown w p exact (M .good t .0)
 
-        pub readable : (j : ℕ) → 1 ≤ j → j ≤ p → seen m₁ j ≡ 1 → Readable w j
-        readable j l n e = counted (grown-nodes w p exact (Readable w) (grown-reads w p exact) h 1 k grown) j (omega (arith, marked j l))
+        pub readable : (j : ℕ) → 1 ≤ j → seen m₁ j ≡ 1 → Readable w j
+        readable j l e = counted (grown-nodes w p exact (Readable w) (grown-reads w p exact) h 1 k grown) j (omega (arith, marked j l))
 
-        module _ (q : Bool) (T : Decides q ((j : ℕ) → 1 ≤ j → j ≤ p → seen m₁ j ≡ 1 → Filled w j)) where
+        module _ (q : Bool) (T : Decides q ((j : ℕ) → 1 ≤ j → seen m₁ j ≡ 1 → Filled w j)) where
           pub not-filled : q ≡ false → Trees Wrong w p m m₁
           not-filled f = wrong (M .long) (λ u P.
               let fs = at-filled w h (treeAt w h k) (M .good t .0 .fit .fit) (only u P .1) in
-              T .bad f (λ j l n e. counted fs j (omega (arith, marked j l))))
+              T .bad f (λ j l e. counted fs j (omega (arith, marked j l))))
 
           pub planted : q ≡ true → Trees (Right h) w p m m₁
           unfolding rootIds rootId levelsOf
@@ -108,7 +108,7 @@ module _ (w : List ℕ) (p : ℕ) (exact : length w ≡ headWords + nodeWords * 
               let fs : All (Filled w) nodes =
               all-map (λ j c.
               let v = in-from p j (omega (arith, M .good t .0 .once j)) in
-              T .good g j (v .low) (v .high) (omega (arith, marked j (v .low), seen-lt m₁ j))) (all-counted nodes) in
+              T .good g j (v .low) (omega (arith, marked j (v .low), seen-lt m₁ j))) (all-counted nodes) in
               right (M .long) record {
                 root = rooted h (treeAt w h k);
                 planted = record {

@@ -1,7 +1,8 @@
 // The soundness check of a pool (01): the shape of the tree, then the words of its nodes, then the free chain, and that every
 // node was met. One bit for each node tells which were met.
+use marks::WORD_MARKS;
 use marks::claim;
-use marks::is_marked;
+use marks::lowest;
 use pool::CHAIN_WORD;
 use pool::ELEMS;
 use pool::HEAD_WORDS;
@@ -19,15 +20,18 @@ use pool::start_of;
 ghost use mathlib.Core.Path.{_≡_};
 ghost use Prim.Native.Nat.{ℕ, _+_, _*_, _<_, _≤_};
 ghost use lib.ListN.{length};
-ghost use Rattle.pool.specs.Layout.{nodeWords, block};
+ghost use Rattle.pool.specs.Layout.{nodeWords, mostNodes, block};
 ghost use Rattle.pool.specs.Parts.{Inside, countAt, kidAt, kidIdsAt};
-ghost use Rattle.marks.specs.Marks.{seen};
+ghost use Rattle.marks.specs.Marks.{bit, seen};
 ghost use Rattle.shape.specs.Shape.{Decides, MarksFit};
 ghost use Rattle.sound.specs.Filled.{Clear, Readable, Filled, AddsUp};
 ghost use Rattle.sound.specs.Check.{Trees, Chains, Checks};
 
 // The words of marks that the largest pool asks for.
-const MARK_WORDS: usize = MOST_NODES / marks::WORD_MARKS;
+const MARK_WORDS: usize = MOST_NODES / WORD_MARKS;
+
+// A word with all its marks.
+const ALL: u64 = 0xffff_ffff_ffff_ffff;
 
 // Words that are looked at together: a number that the compiler knows.
 const STEP: usize = 16;
@@ -132,18 +136,34 @@ fn filled(pool: &[u64], k: usize) -> bool
     adds_up(pool, k)
 }
 
-// The same of every node that is marked.
-fn all_filled(pool: &[u64], p: usize, marks: &[u64]) -> bool
-    requires { ⌜ MarksFit (now pool) p (now marks) ⌝ }
-    requires { ⌜ ((k : ℕ) → 1 ≤ k → k ≤ p → seen (now marks) k ≡ 1 → Readable (now pool) k) ⌝ }
-    ensures { λ r. ⌜ Decides r ((k : ℕ) → 1 ≤ k → k ≤ p → seen (now (marks .entry)) k ≡ 1 → Filled (now (pool .entry)) k) ⌝ }
+// Whether the nodes are filled whose marks are set in a word; its first mark is that of node `first`.
+fn word_filled(pool: &[u64], first: usize, word: u64) -> bool
+    requires { ⌜ ((j : ℕ) → j < 64 → bit word j ≡ 1 → Readable (now pool) (first + j)) ⌝ }
+    ensures { λ r. ⌜ Decides r ((j : ℕ) → j < 64 → bit word j ≡ 1 → Filled (now (pool .entry)) (first + j)) ⌝ }
 {
-    let mut k = 0;
-    while k < p {
-        k += 1;
-        if is_marked(marks, k) && !filled(pool, k) {
+    let mut rest = word;
+    while rest != 0 {
+        let l = lowest(rest);
+        if !filled(pool, first + l.bit) {
             return false;
         }
+        rest = l.rest;
+    }
+    true
+}
+
+// Whether every node that is marked is filled: a word of marks at a time.
+fn all_filled(pool: &[u64], marks: &[u64]) -> bool
+    requires { ⌜ 64 * length (now marks) ≤ mostNodes ⌝ }
+    requires { ⌜ ((k : ℕ) → 1 ≤ k → seen (now marks) k ≡ 1 → Readable (now pool) k) ⌝ }
+    ensures { λ r. ⌜ Decides r ((k : ℕ) → 1 ≤ k → seen (now (marks .entry)) k ≡ 1 → Filled (now (pool .entry)) k) ⌝ }
+{
+    let mut i = 0;
+    while i < marks.len() {
+        if !word_filled(pool, i * WORD_MARKS + 1, marks[i]) {
+            return false;
+        }
+        i += 1;
     }
     true
 }
@@ -153,6 +173,7 @@ fn all_filled(pool: &[u64], p: usize, marks: &[u64]) -> bool
 // Whether the tree is right: both passes. Marks its nodes.
 fn tree(pool: &[u64], p: usize, marks: &mut [u64]) -> Part
     requires { ⌜ MarksFit (now pool) p (now marks) ⌝ }
+    requires { ⌜ 64 * length (now marks) ≤ mostNodes ⌝ }
     requires { ⌜ ((k : ℕ) → seen (now marks) k ≡ 0) ⌝ }
     ensures { λ r. ⌜ Trees r (now (pool .entry)) p (now (marks .entry)) (now (marks .exit)) ⌝ }
 {
@@ -164,7 +185,7 @@ fn tree(pool: &[u64], p: usize, marks: &mut [u64]) -> Part
     if !shape::shape(pool, p, marks, root, levels) {
         return Part::Wrong;
     }
-    if !all_filled(pool, p, marks) {
+    if !all_filled(pool, marks) {
         return Part::Wrong;
     }
     Part::Right(levels)
@@ -201,14 +222,20 @@ fn all_marked(marks: &[u64], p: usize) -> bool
     requires { ⌜ p ≤ 64 * length (now marks) ⌝ }
     ensures { λ r. ⌜ Decides r ((k : ℕ) → 1 ≤ k → k ≤ p → seen (now (marks .entry)) k ≡ 1) ⌝ }
 {
-    let mut k = 0;
-    while k < p {
-        k += 1;
-        if !is_marked(marks, k) {
+    let whole = p / WORD_MARKS;
+    let mut i = 0;
+    while i < whole {
+        if marks[i] != ALL {
             return false;
         }
+        i += 1;
     }
-    true
+    let left = p % WORD_MARKS;
+    if left == 0 {
+        return true;
+    }
+    let most = (1u64 << left) - 1;
+    marks[whole] & most == most
 }
 
 // Checks the pool in full.
