@@ -37,7 +37,7 @@ returns-2 c =
     let c₄ = c₃ .before in
     let c₅ = c₄ .before .before in
     λ q. left-made (q .ready) _ (c₅ .way-in .ensures) _ (c₄ .is-full .ensures) (not-false _ (c₃ .if1 .left)) _ (c₂ .split-child .ensures)
-    _ (c₁ .length-at .ensures) (c .if2 .taken)
+    _ (c₁ .length-at .ensures) (omega arith)
 
 kid-at-requires : tie.Need-kid-at-requires
 kid-at-requires c κs =
