@@ -67,6 +67,20 @@ unfolding seats
 seats-length zero t F = omega (arith, length-replicate {A = ℕ} (suc (length (t .elems))) 0)
 seats-length (suc h) t F = length-map (t .kids) (idOf h) ∙ F .one-more
 
+slot-is : (h : ℕ) (t : Tree (suc h)) (j : ℕ) → getD (map (idOf h) (t .kids)) j 0 ≡ kid h t j .id
+slot-is h t j = List·getD-map (idOf h) (t .kids) j (none h)
+
+zero-slot : (n j : ℕ) → j ≤ n → getD (replicate {A = ℕ} (suc n) 0) j 0 ≡ 0
+zero-slot n j l = getD-replicate {A = ℕ} (suc n) j 0 0 (omega arith)
+
+-- a slot is 0 in a leaf alone, and then so is every slot of a node at that height
+pub leaf-slots : {w : List ℕ} (h : ℕ) (x : Tree h) → At w h x → Fit h x → (j : ℕ) → j ≤ length (x .elems) → getD (seats h x) j 0 ≡ 0
+    → (y : Tree h) (c : ℕ) → c ≤ length (y .elems) → getD (seats h y) c 0 ≡ 0
+unfolding seats
+leaf-slots zero x A F j l e y c m = zero-slot (length (y .elems)) c m
+leaf-slots (suc h) x A F j l e y c m =
+    absurd (omega (arith, rw (slot-is h x j) at e, A .each j (omega (arith, F .one-more)) .here .inside .some))
+
 -- the words of a node say no more than that
 zeros-slots : (n m : ℕ) → m ≤ n → slots n [] ≡ slots n (replicate m 0)
 unfolding slots
@@ -98,6 +112,7 @@ seated {w} {h} {t} {k} T = record {
     few-kids = omega (arith, seats-length h t (T .fit), most h t (T .fit));
   };
   seats = seats-length h t (T .fit);
+  leaf = λ e c l. leaf-slots h t (T .at) (T .fit) 0 (omega arith) e t c (omega (arith, seats-length h t (T .fit)));
 }
 
 -- ---- what is below children
@@ -115,12 +130,6 @@ sizes-append : (h : ℕ) (xs ys : List (Below h)) → sizes h (xs ++ ys) ≡ siz
 unfolding sizes
 sizes-append zero xs ys = omega arith
 sizes-append (suc h) xs ys = total-append (size h) xs ys
-
-slot-is : (h : ℕ) (t : Tree (suc h)) (j : ℕ) → getD (map (idOf h) (t .kids)) j 0 ≡ kid h t j .id
-slot-is h t j = List·getD-map (idOf h) (t .kids) j (none h)
-
-zero-slot : (n j : ℕ) → j ≤ n → getD (replicate {A = ℕ} (suc n) 0) j 0 ≡ 0
-zero-slot n j l = getD-replicate {A = ℕ} (suc n) j 0 0 (omega arith)
 
 module _ {w : List ℕ} where
   slot-length : (h : ℕ) (t : Tree (suc h)) → At w (suc h) t → (j : ℕ) → j < length (t .kids)

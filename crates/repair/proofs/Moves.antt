@@ -23,7 +23,7 @@ use Rattle.pieces.specs.declared.Piece.{Piece}
 use Rattle.pieces.specs.declared.End.{End}
 use Rattle.repair.specs.Ready.{PairReady, Few, LeftLends, RightLends}
 use Rattle.pieces.specs.Pieces.{Takes, TookOut, Joins, lengthOr, Lends, Lent}
-use Rattle.repair.proofs.Ends.{seats, seats-length, In, seated, slot-inside, join-block}
+use Rattle.repair.proofs.Ends.{seats, seats-length, In, seated, slot-inside, leaf-slots, join-block}
 use Rattle.repair.proofs.Ends.{last-less, last-given, front-taken, first-less, first-given, back-taken}
 use Rattle.pieces.proofs.Lending.{seated-kept}
 use Rattle.repair.proofs.Pairing.{pair-is, pair-count, Pair, top-in, left-in, right-in, pair-sizes, pair-ids, merged-ids}
@@ -151,7 +151,7 @@ lends-of : {w : List ℕ} {h id c k j : ℕ} {t : Tree (suc h)} {x y : Tree h} (
     → c < length (t .elems) → k ≢ id → j ≢ id → k ≢ j → size h x + size h y < 2 ^ 32 → (i p a b : ℕ) → i < length (x .elems)
     → p ≤ length (x .elems) → lengthOr w (getD (seats h x) p 0) < size h x → a ≤ length (y .elems) → b ≤ length (y .elems) + 1
     → length (y .elems) ≤ 30 → Lends w id c (record { node = k; elem = i; kid = p }) (record { node = j; elem = a; kid = b })
-lends-of {h = h} {x = x} T X Y place u v n few i p a b li lp less la lb room = record {
+lends-of {h = h} {x = x} {y = y} T X Y place u v n few i p a b li lp less la lb room = record {
   parent = record { node = seated T .node; below = place };
   lender = record { seated = seated X; place = lp; inside = slot-inside h x (X .at) (X .fit) p lp };
   taker = seated Y;
@@ -162,6 +162,7 @@ lends-of {h = h} {x = x} T X Y place u v n few i p a b li lp less la lb room = r
   less = less;
   new-elem = la;
   new-kid = lb;
+  alike = λ e. leaf-slots h x (X .at) (X .fit) p lp e y 0 (omega arith);
   room = room;
   small = omega arith;
 }
