@@ -12,7 +12,7 @@ use borrow.Author.Tests.{eqb-true, eqb-false, eq-eqb, ne-eqb}
 use lib.Dec.{eqb}
 use lib.Bits.{bitAnd, bitOr, or-shr, or-step, or-shifted, and-high, and-block, and-mask, and-self}
 use lib.Count.{under, trailingZeros}
-use lib.ListN.{length, getD, set, replicate, length-set, List·getD-eq-default}
+use lib.ListN.{length, getD, set, replicate, length-set}
 use lib.Pow.{pow-pos, pow-lt, pow-add, shl-exact, shl-shr, mod-pow-add}
 use lib.Seq.{getD-set-same, getD-set-other}
 use Rattle.lists.specs.Lists.{count}
@@ -183,14 +183,6 @@ seen-at m i j l =
     let a : (i * 64 + 1 + j - 1) / 64 ≡ i = omega arith in
     let b : (i * 64 + 1 + j - 1) % 64 ≡ j = omega arith in
     rw (a, b)
-
--- no number is marked that the words have no room for
-pub seen-within : (m : List ℕ) (k : ℕ) → seen m k ≡ 1 → k ≤ 64 * length m
-unfolding seen
-seen-within m k e = elim (decLe k (64 * length m)) [
-  | yes l ↦ l
-  | no l ↦ absurd (omega (arith, rw (List·getD-eq-default m 0 {n = (k - 1) / 64} (omega arith)) at e, bit-zero ((k - 1) % 64)))
-]
 
 -- what holds up to a word, and of the first n numbers of the word
 pub by-word : (Q : ℕ → Type 0) (i n : ℕ) → ((k : ℕ) → 1 ≤ k → k ≤ i * 64 → Q k) → ((j : ℕ) → j < n → Q (i * 64 + 1 + j))

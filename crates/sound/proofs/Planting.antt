@@ -93,8 +93,11 @@ module _ (w : List ℕ) (p : ℕ) (exact : length w ≡ headWords + nodeWords * 
         grown : Grown w p h 1 k
         grown = shape-grown w p exact (M .good t .0)
 
-        pub readable : (j : ℕ) → 1 ≤ j → seen m₁ j ≡ 1 → Readable w j
-        readable j l e = counted (grown-nodes w p exact (Readable w) (grown-reads w p exact) h 1 k grown) j (omega (arith, marked j l))
+        pub readable : (j : ℕ) → 1 ≤ j → seen m₁ j ≡ 1 → (j ≤ p) × Readable w j
+        readable j l e = (
+          in-from p j (omega (arith, marked j l, M .good t .0 .once j)) .high,
+          counted (grown-nodes w p exact (Readable w) (grown-reads w p exact) h 1 k grown) j (omega (arith, marked j l)),
+        )
 
         module _ (q : Bool) (T : Decides q ((j : ℕ) → 1 ≤ j → seen m₁ j ≡ 1 → Filled w j)) where
           pub not-filled : q ≡ false → Trees Wrong w p m m₁

@@ -20,7 +20,7 @@ use pool::start_of;
 ghost use mathlib.Core.Path.{_≡_};
 ghost use Prim.Native.Nat.{ℕ, _+_, _*_, _<_, _≤_};
 ghost use lib.ListN.{length};
-ghost use Rattle.pool.specs.Layout.{nodeWords, mostNodes, block};
+ghost use Rattle.pool.specs.Layout.{nodeWords, block};
 ghost use Rattle.pool.specs.Parts.{Inside, countAt, kidAt, kidIdsAt};
 ghost use Rattle.marks.specs.Marks.{bit, seen};
 ghost use Rattle.shape.specs.Shape.{Decides, MarksFit};
@@ -153,13 +153,13 @@ fn word_filled(pool: &[u64], first: usize, word: u64) -> bool
 }
 
 // Whether every node that is marked is filled: a word of marks at a time.
-fn all_filled(pool: &[u64], marks: &[u64]) -> bool
-    requires { ⌜ 64 * length (now marks) ≤ mostNodes ⌝ }
-    requires { ⌜ ((k : ℕ) → 1 ≤ k → seen (now marks) k ≡ 1 → Readable (now pool) k) ⌝ }
+fn all_filled(pool: &[u64], p: usize, marks: &[u64]) -> bool
+    requires { ⌜ MarksFit (now pool) p (now marks) ⌝ }
+    requires { ⌜ ((k : ℕ) → 1 ≤ k → seen (now marks) k ≡ 1 → (k ≤ p) × Readable (now pool) k) ⌝ }
     ensures { λ r. ⌜ Decides r ((k : ℕ) → 1 ≤ k → seen (now (marks .entry)) k ≡ 1 → Filled (now (pool .entry)) k) ⌝ }
 {
     let mut i = 0;
-    while i < marks.len() {
+    while i * WORD_MARKS < p {
         if !word_filled(pool, i * WORD_MARKS + 1, marks[i]) {
             return false;
         }
@@ -173,7 +173,6 @@ fn all_filled(pool: &[u64], marks: &[u64]) -> bool
 // Whether the tree is right: both passes. Marks its nodes.
 fn tree(pool: &[u64], p: usize, marks: &mut [u64]) -> Part
     requires { ⌜ MarksFit (now pool) p (now marks) ⌝ }
-    requires { ⌜ 64 * length (now marks) ≤ mostNodes ⌝ }
     requires { ⌜ ((k : ℕ) → seen (now marks) k ≡ 0) ⌝ }
     ensures { λ r. ⌜ Trees r (now (pool .entry)) p (now (marks .entry)) (now (marks .exit)) ⌝ }
 {
@@ -185,7 +184,7 @@ fn tree(pool: &[u64], p: usize, marks: &mut [u64]) -> Part
     if !shape::shape(pool, p, marks, root, levels) {
         return Part::Wrong;
     }
-    if !all_filled(pool, marks) {
+    if !all_filled(pool, p, marks) {
         return Part::Wrong;
     }
     Part::Right(levels)

@@ -67,6 +67,7 @@ pub fn way_to(pool: &[u64], id: usize, index: usize) -> Turn
 }
 
 // The element at an index. The child lengths compared on the way are added to `compared`.
+// Nothing is left to do after the call, and its arguments fit the registers, so that the compiler makes a loop of it.
 fn get(pool: &&[u64], id: usize, levels: usize, index: usize, compared: &mut usize) -> u64
     requires { ⌜ Has (now (now pool)) levels id index ⌝ }
     requires { ⌜ now compared + 32 * levels < 2 ^ 64 ⌝ }

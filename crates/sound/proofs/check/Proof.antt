@@ -22,7 +22,7 @@ sub-p c = omega (arith, fitting c .exact)
 tree-requires : tie.Need-tree-requires
 tree-requires c κs =
     let F = fitting (c .before) in
-    (record { exact = F .exact; marks = omega (arith, F .few) }, (omega arith, none-seen 64))
+    (record { exact = F .exact; marks = omega (arith, F .few) }, none-seen 64)
 
 returns-2 : tie.Need-returns-2
 returns-2 c =

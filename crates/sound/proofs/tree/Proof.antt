@@ -9,14 +9,14 @@ use Rattle.sound.proofs.tree.Tie as tie
 returns : tie.Need-returns
 returns c =
     let s = c .before .before .before .before .pre in
-    no-tree _ _ (s .0 .exact) _ (s .1 .1) _ refl (c .if1 .taken)
+    no-tree _ _ (s .0 .exact) _ (s .1) _ refl (c .if1 .taken)
 
 returns-2 : tie.Need-returns-2
 returns-2 c =
     let f = c .before .before .before in
     let d = f .before .before in
     let s = d .before .before .before .before .before .pre in
-    not-shaped _ _ (s .0 .exact) _ (s .1 .1) _ refl (d .before .if1 .left) _ (d .depth .ensures) _ _ (f .shape .ensures)
+    not-shaped _ _ (s .0 .exact) _ (s .1) _ refl (d .before .if1 .left) _ (d .depth .ensures) _ _ (f .shape .ensures)
     (not-true _ (c .if2 .taken))
 
 all-filled-requires : tie.Need-all-filled-requires
@@ -24,8 +24,8 @@ all-filled-requires c κs =
     let f = c .before .before .before .before in
     let d = f .before .before in
     let s = d .before .before .before .before .before .pre in (
-      omega (arith, f .shape .ensures .long),
-      readable _ _ (s .0 .exact) _ (s .1 .1) _ refl (d .before .if1 .left) _ (d .depth .ensures) _ _ (f .shape .ensures)
+      record { exact = s .0 .exact; marks = omega (arith, f .shape .ensures .long) },
+      readable _ _ (s .0 .exact) _ (s .1) _ refl (d .before .if1 .left) _ (d .depth .ensures) _ _ (f .shape .ensures)
           (not-false _ (c .before .if2 .left)),
     )
 
@@ -34,7 +34,7 @@ returns-3 c =
     let f = c .before .before .before .before .before .before in
     let d = f .before .before in
     let s = d .before .before .before .before .before .pre in
-    not-filled _ _ (s .0 .exact) _ (s .1 .1) _ refl (d .before .if1 .left) _ (d .depth .ensures) _ _ (f .shape .ensures)
+    not-filled _ _ (s .0 .exact) _ (s .1) _ refl (d .before .if1 .left) _ (d .depth .ensures) _ _ (f .shape .ensures)
     (not-false _ (c .before .before .before .if2 .left)) _ (c .before .all-filled .ensures) (not-true _ (c .if3 .taken))
 
 returns-4 : tie.Need-returns-4
@@ -42,7 +42,7 @@ returns-4 c =
     let f = c .before .before .before .before .before .before in
     let d = f .before .before in
     let s = d .before .before .before .before .before .pre in
-    planted _ _ (s .0 .exact) _ (s .1 .1) _ refl (d .before .if1 .left) _ (d .depth .ensures) _ _ (f .shape .ensures)
+    planted _ _ (s .0 .exact) _ (s .1) _ refl (d .before .if1 .left) _ (d .depth .ensures) _ _ (f .shape .ensures)
     (not-false _ (c .before .before .before .if2 .left)) _ (c .before .all-filled .ensures) (not-false _ (c .if3 .left))
 
 pub tree-spec : {M : Type 1} → statement M
