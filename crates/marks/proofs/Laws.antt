@@ -93,10 +93,12 @@ and-pred q t =
     let e : q * 2 ^ suc t + 2 ^ t - 1 ≡ q * 2 ^ suc t + (2 ^ t - 1) = omega (arith, pow-pos t) in
     rw (e, and-block (suc t) q q (2 ^ t) (2 ^ t - 1) l (omega arith), and-self, and-mask) (omega (arith, mod-self (2 ^ t)))
 
--- what is left has no bit t
-bit-gone : (q t : ℕ) → bit (q * 2 ^ suc t) t ≡ 0
+-- what is left has no bit up to t
+bit-gone : (q t j : ℕ) → j ≤ t → bit (q * 2 ^ suc t) j ≡ 0
 unfolding bit
-bit-gone q t = rw (pow-succ' 2 t, ← mul-assoc q 2 (2 ^ t), shl-shr) (omega arith)
+bit-gone q t j l =
+    let e : suc t ≡ t - j + suc j = omega arith in
+    rw (e, pow-add 2 (t - j) (suc j), pow-succ' 2 j, ← mul-assoc q (2 ^ (t - j)) (2 * 2 ^ j), ← mul-assoc (q * 2 ^ (t - j)) 2 (2 ^ j), shl-shr) (omega arith)
 
 pub takes-out : (w : ℕ) → 0 < w → w < 2 ^ 64 → TakesOut w (record { bit = trailingZeros 64 w; rest = bitAnd w (w - 1) })
 takes-out w some small = out (trailingZeros 64 w) (trailing 64 w some small)
@@ -109,8 +111,9 @@ takes-out w some small = out (trailingZeros 64 w) (trailing 64 w some small)
         record {
           few = L .few;
           is = omega (arith, both t, bit-same t, bit-lt w t);
+          lowest = λ j l. omega (arith, both j, bit-gone (L .q) t j (omega arith), bit-other t j (λ e. omega arith));
           rest = λ j. rw r (elim (ℕ-discrete j t) [
-            | yes e ↦ rw (eq-eqb j t e, e) (bit-gone (L .q) t)
+            | yes e ↦ rw (eq-eqb j t e, e) (bit-gone (L .q) t t (omega arith))
             | no ne ↦ rw (ne-eqb j t ne) (omega (arith, both j, bit-other t j ne))
           ]);
           less = rw r (omega (arith, pow-pos t));

@@ -23,9 +23,10 @@ pub record Claimed (r : Bool) (m : List ℕ) (k : ℕ) (m′ : List ℕ) : Type 
   pub again : r ≡ false → (seen m k ≡ 1) × (m′ ≡ m)
   pub long : length m′ ≡ length m
 
--- a bit that is set, and the word without it
+-- the lowest bit that is set, and the word without it
 pub record TakesOut (w : ℕ) (r : Taken) : Type 0 where
   pub few : r .bit < 64
   pub is : bit w (r .bit) ≡ 1
+  pub lowest : (j : ℕ) → j < r .bit → bit w j ≡ 0
   pub rest : (j : ℕ) → bit (r .rest) j ≡ cond (eqb j (r .bit)) 0 (bit w j)
   pub less : r .rest < w
