@@ -4,7 +4,6 @@ use mathlib.Core.Bool.{true≢false, false≢true}
 use Prim.Native.Nat.{ℕ, _+_, _-_, _*_, _≤_, _<_}
 use native.Mathlib.Omega.{arith}
 use borrow.Author.Tests.{not-true, not-false}
-use lib.ListN.{length}
 use Rattle.marks.specs.Marks.{seen}
 use Rattle.marks.proofs.Laws.{seen-at, by-word}
 use Rattle.sound.specs.Filled.{Filled}
