@@ -1,5 +1,5 @@
-//! How long the library takes: the check beside adding up the pool's words, the calls and the batch beside the Rust. The bars: the
-//! check at most 4 times the sum on the largest pool, the batch at most 3 times an ordinary Rust program.
+//! How long the library takes: the check beside adding up the pool's words, a command on lists from 30 to 60,000 samples, and batches
+//! beside an ordinary Rust program. Ends with 1 if a ratio of medians is above its bar.
 use std::hint::black_box;
 use std::process::exit;
 use std::time::Instant;
@@ -11,8 +11,13 @@ use compare::{bag, batches, ordinary};
 
 const NODES: usize = 4096;
 const ROUNDS: usize = 400;
-const CHECK_BAR: f64 = 4.0;
-const BATCH_BAR: f64 = 3.0;
+
+/// A ratio of medians that was measured, and its bar.
+struct Bar {
+    name: String,
+    ratio: f64,
+    most: f64,
+}
 
 fn free(nodes: usize) -> Vec<u64> {
     let mut pool = vec![0; bag::words(nodes)];
@@ -99,24 +104,63 @@ fn checks(random: &mut Random) -> f64 {
     pools.iter().map(|(name, pool)| measure(name, pool)).fold(0.0, f64::max)
 }
 
-const KINDS: [&str; 3] = ["insert", "remove", "get"];
+/// The samples of the lists on which a command is timed.
+const LISTS: [u64; 5] = [30, 300, 3000, 30_000, 60_000];
+const KINDS: [&str; 5] = ["insert", "remove", "push", "get", "replace"];
 
-fn command(kind: &str, index: u64, element: u64) -> Call {
+fn command(kind: &str, n: u64, random: &mut Random) -> Call {
     match kind {
-        "insert" => Call::Insert(index, element),
-        "remove" => Call::Remove(index),
-        _ => Call::Get(index),
+        "insert" => Call::Insert(random.below(n + 1), random.any()),
+        "remove" => Call::Remove(random.below(n)),
+        "push" => Call::Push(random.any()),
+        "get" => Call::Get(random.below(n)),
+        _ => Call::Replace(random.below(n), random.any()),
     }
 }
 
-fn on_tree(tree: &mut SequenceTree<u64>, call: &Call) -> u64 {
-    match *call {
-        Call::Insert(index, element) => tree.insert(index as usize, element),
-        Call::Remove(index) => return tree.remove(index as usize),
-        Call::Get(index) => return tree.get(index as usize).map_or(0, |element| *element),
-        _ => {}
+fn bytes<'a>(calls: impl IntoIterator<Item = &'a Call>) -> Vec<u8> {
+    calls.into_iter().flat_map(|call| batches::bytes(call).expect("a batch's call")).collect()
+}
+
+/// A pool and the Rust's tree with the same list, and room for the answers of a batch.
+struct Pair {
+    pool: Vec<u64>,
+    tree: SequenceTree<u64>,
+    output: Vec<u8>,
+}
+
+impl Pair {
+    /// Lists of n samples that were inserted at random places.
+    fn new(nodes: usize, n: u64, random: &mut Random) -> Pair {
+        let output = vec![0; batches::LONGEST * (n as usize + 2000)];
+        let mut pair = Pair { pool: free(nodes), tree: SequenceTree::new(), output };
+        pair.run(&mixed([100, 0, 0, 0, 0, 0], 0, n, random));
+        pair
     }
-    0
+
+    /// Runs a batch on both.
+    fn run(&mut self, input: &[u8]) {
+        assert_eq!(bag::batch(&mut self.pool, input, &mut self.output).number, 0);
+        assert_eq!(ordinary::batch(&mut self.tree, input, &mut self.output).number, 0);
+    }
+
+    /// Takes off both lists what is behind the first n samples.
+    fn cut(&mut self, n: u64) {
+        let removals = |len: u64| bytes(&vec![Call::Remove(n); (len - n) as usize]);
+        let (ours, theirs) = (removals(bag::len(&self.pool).value), removals(self.tree.len() as u64));
+        assert_eq!(bag::batch(&mut self.pool, &ours, &mut self.output).number, 0);
+        assert_eq!(ordinary::batch(&mut self.tree, &theirs, &mut self.output).number, 0);
+    }
+
+    /// Microseconds: so many of the calls, and as many checks, each by itself; all of the calls as a batch, and in the Rust program.
+    fn time(&mut self, made: &[Call], few: usize) -> [f64; 4] {
+        let input = bytes(made);
+        let calls = time(|| made[..few].iter().for_each(|call| assert!(ask(&mut self.pool, call)[0] == 0)));
+        let checks = time(|| (0..few).for_each(|_| assert!(bag::check(black_box(&self.pool)).number == 0)));
+        let batch = time(|| bag::batch(&mut self.pool, &input, &mut self.output));
+        black_box(self.tree.shape().map(touch));
+        [calls, checks, batch, time(|| ordinary::batch(&mut self.tree, &input, &mut self.output))]
+    }
 }
 
 /// Reads every element, so that the tree is in the cache as far as it fits: a pool is there after its check.
@@ -124,51 +168,40 @@ fn touch(node: Shape<u64>) -> u64 {
     sum(node.elements()).wrapping_add(node.children().map(touch).fold(0, u64::wrapping_add))
 }
 
-/// The calls on a list of n samples, in a pool with room for more: the library's call, the check in it, the same command in a batch
-/// without the batch's check, and the Rust's call. Nanoseconds, medians.
-fn calls(n: u64, random: &mut Random) {
+/// The commands on a list of n samples, in a pool with room for more; nanoseconds, from the medians.
+fn growth(n: u64, random: &mut Random) {
     let count = (n / 10).clamp(10, 2000);
-    let nodes = (n / 10) as usize + 4;
-    let mut pool = free(nodes);
-    let mut tree = SequenceTree::new();
-    for i in 0..n {
-        let call = Call::Insert(random.below(i + 1), i);
-        assert_eq!(ask(&mut pool, &call)[0], 0);
-        on_tree(&mut tree, &call);
-    }
-    let mut output = vec![0; batches::LONGEST * (count as usize + 1)];
-    let mut times: [[Vec<f64>; 4]; 3] = Default::default();
-    let each = |time: f64, calls: usize| time * 1000.0 / calls as f64;
+    let few = count.min(50) as usize;
+    let nodes = (n as usize / 10 + 4).min(NODES);
+    let mut pair = Pair::new(nodes, n, random);
+    let mut times: [[Vec<f64>; 4]; 5] = Default::default();
     for _ in 0..if n > 10_000 { 41 } else { 401 } {
-        // Each list keeps its n: what a round inserts it removes again.
-        for (kind, [library, checks, batch, rust]) in KINDS.iter().zip(&mut times) {
-            let made: Vec<Call> = (0..count).map(|_| command(kind, random.below(n), random.any())).collect();
-            let few = &made[..made.len().min(50)];
-            library.push(each(time(|| few.iter().for_each(|call| assert!(ask(&mut pool, call)[0] == 0))), few.len()));
-            black_box(tree.shape().map(touch));
-            rust.push(each(time(|| made.iter().fold(0, |all: u64, call| all.wrapping_add(on_tree(&mut tree, call)))), made.len()));
-            let input: Vec<u8> = made.iter().filter_map(batches::bytes).flatten().collect();
-            let check = time(|| few.iter().for_each(|_| assert!(bag::check(black_box(&pool)).number == 0))) / few.len() as f64;
-            checks.push(each(check, 1));
-            batch.push(each(time(|| bag::batch(&mut pool, &input, &mut output)) - check, made.len()));
+        for (kind, lines) in KINDS.iter().zip(&mut times) {
+            let made: Vec<Call> = (0..count).map(|_| command(kind, n, random)).collect();
+            lines.iter_mut().zip(pair.time(&made, few)).for_each(|(line, time)| line.push(time));
+            // Each list keeps its n: what a round inserts it removes again, and what it pushes here.
+            if *kind == "push" {
+                pair.cut(n);
+            }
         }
     }
     for (kind, lines) in KINDS.iter().zip(times) {
-        let [library, check, batch, rust] = lines.map(|times| of(times).0);
+        let [calls, checks, batch, rust] = lines.map(|times| of(times).0 * 1000.0);
+        let (call, check) = (calls / few as f64, checks / few as f64);
+        let (batch, rust) = ((batch - check) / count as f64, rust / count as f64);
         let ratio = batch / rust;
-        println!("| {n} | {nodes} | {kind} | {library:.0} | {check:.0} | {batch:.0} | {rust:.0} | {ratio:.2} |");
+        println!("| {n} | {nodes} | {kind} | {call:.0} | {check:.0} | {batch:.0} | {rust:.0} | {ratio:.2} |");
     }
 }
 
-/// A batch on a pool of 1,024 nodes beside the Rust on the same bytes, both after the same preparation; gives the ratio.
-fn batch(name: &str, before: &[u8], input: &[u8]) -> f64 {
-    const NODES: usize = 1024;
+/// A batch beside the Rust program on the same bytes, both after the same preparation; gives the ratio.
+fn batch(name: &str, nodes: usize, before: &[u8], input: &[u8]) -> f64 {
     let room = input.len() * 9 + 13;
     let (mut ours, mut theirs) = (vec![0; room], vec![0; room]);
     let (mut library, mut rust) = (Vec::new(), Vec::new());
-    let (mut written, mut commands) = (0, 0);
+    let mut written = 0;
     for _ in 0..101 {
-        let mut pool = free(NODES);
+        let mut pool = free(nodes);
         let mut tree = SequenceTree::new();
         assert_eq!(bag::batch(&mut pool, before, &mut vec![0; before.len() * 9 + 13]).number, 0);
         ordinary::batch(&mut tree, before, &mut vec![0; before.len() * 9 + 13]);
@@ -176,12 +209,12 @@ fn batch(name: &str, before: &[u8], input: &[u8]) -> f64 {
         library.push(time(|| ran = Some(bag::batch(&mut pool, input, &mut ours))));
         rust.push(time(|| also = Some(ordinary::batch(&mut tree, input, &mut theirs))));
         assert_eq!(ran, also);
-        (written, commands) = ran.map_or((0, 0), |r| (r.written as usize, r.commands));
+        written = ran.map_or(0, |r| r.written as usize);
     }
     assert!(without_comparisons(&ours[..written]) == theirs[..written], "the answers differ");
     let ((library, best), (rust, rust_best)) = (of(library), of(rust));
     let ratio = library / rust;
-    println!("| {name} | {commands} | {library:.0} | {rust:.0} | {ratio:.2} | {best:.0} | {rust_best:.0} | {:.2} |", best / rust_best);
+    println!("| {name} | {nodes} | {library:.0} | {rust:.0} | {ratio:.2} | {best:.0} | {rust_best:.0} | {:.2} |", best / rust_best);
     ratio
 }
 
@@ -227,34 +260,43 @@ fn mixed(parts: [u64; 6], mut n: u64, count: u64, random: &mut Random) -> Vec<u8
     input
 }
 
-/// Gives the ratio of the batch that the bar is for.
-fn batch_table(random: &mut Random) -> f64 {
-    println!("\n10,000 commands on 1,024 nodes, 101 rounds; times in microseconds\n");
-    println!("| commands | run | library, median | Rust, median | ratio | library, best | Rust, best | ratio |");
+/// 10,000 commands of each sort; gives the ratios that have bars.
+fn batch_table(random: &mut Random) -> Vec<Bar> {
+    const NODES: usize = 1024;
+    println!("\n10,000 commands, 101 rounds; times in microseconds\n");
+    println!("| commands | nodes | library, median | Rust, median | ratio | library, best | Rust, best | ratio |");
     println!("|---|---|---|---|---|---|---|---|");
-    let mix = [30, 20, 10, 20, 10, 10];
-    let ratio = batch("mixed, from an empty list", &[], &mixed(mix, 0, 10_000, random));
+    let mut bars = Vec::new();
+    let mut held = |name: &str, most: f64, before: &[u8], input: &[u8]| {
+        bars.push(Bar { name: name.to_string(), ratio: batch(name, NODES, before, input), most });
+    };
+    let long = mixed([100, 0, 0, 0, 0, 0], 0, 10_000, random);
+    let short = mixed([100, 0, 0, 0, 0, 0], 0, 20, random);
+    let lookups = [0, 0, 0, 100, 0, 0];
+    held("mixed, from an empty list", 0.95, &[], &mixed([30, 20, 10, 20, 10, 10], 0, 10_000, random));
+    held("insertions at random", 1.0, &[], &long);
+    held("removals at random, from 10000", 0.9, &long, &mixed([0, 100, 0, 0, 0, 0], 10_000, 10_000, random));
+    held("pushes", 0.5, &[], &mixed([0, 0, 100, 0, 0, 0], 0, 10_000, random));
+    held("lookups at random, in 10000", 1.12, &long, &mixed(lookups, 10_000, 10_000, random));
+    held("lookups at random, in 20", 1.25, &short, &mixed(lookups, 20, 10_000, random));
+    batch("lookups at random, in 20", 60, &short, &mixed(lookups, 20, 10_000, random));
     for n in [1000, 5000, 10_000] {
         let before = mixed([100, 0, 0, 0, 0, 0], 0, n, random);
-        batch(&format!("mixed, from {n} samples"), &before, &mixed([20, 20, 10, 30, 10, 10], n, 10_000, random));
+        batch(&format!("mixed, from {n} samples"), NODES, &before, &mixed([20, 20, 10, 30, 10, 10], n, 10_000, random));
     }
-    let before = mixed([100, 0, 0, 0, 0, 0], 0, 10_000, random);
-    batch("insertions at random", &[], &before);
-    batch("pushes", &[], &mixed([0, 0, 100, 0, 0, 0], 0, 10_000, random));
-    batch("removals at random, from 10000", &before, &mixed([0, 100, 0, 0, 0, 0], 10_000, 10_000, random));
-    batch("lookups at random, from 10000", &before, &mixed([0, 0, 0, 100, 0, 0], 10_000, 10_000, random));
-    ratio
+    bars
 }
 
 fn main() {
     let random = &mut Random::new(20261115);
-    let check = checks(random);
-    println!("\nworst ratio of the medians: {check:.2}; the bar is {CHECK_BAR}");
-    println!("\ncalls at random places; times in nanoseconds, medians\n");
-    println!("| samples | nodes | call | library's call | of it, the check | in a batch | Rust's call | batch to Rust |");
+    let mut bars = vec![Bar { name: "the check, worst of the five pools, to the sum".to_string(), ratio: checks(random), most: 1.9 }];
+    println!("\na command at random places; times in nanoseconds, medians\n");
+    println!("| samples | nodes | command | call by itself | of it, the check | in a batch | in the Rust program | ratio |");
     println!("|---|---|---|---|---|---|---|---|");
-    [30, 300, 3000, 30_000].into_iter().for_each(|n| calls(n, random));
-    let batch = batch_table(random);
-    println!("\nratio of the medians, mixed from an empty list: {batch:.2}; the bar is {BATCH_BAR}");
-    exit((check > CHECK_BAR || batch > BATCH_BAR) as i32);
+    LISTS.into_iter().for_each(|n| growth(n, random));
+    bars.extend(batch_table(random));
+    println!("\n| ratio of medians | measured | bar |");
+    println!("|---|---|---|");
+    bars.iter().for_each(|Bar { name, ratio, most }| println!("| {name} | {ratio:.2} | {most:.2} |"));
+    exit(bars.iter().any(|bar| bar.ratio > bar.most) as i32);
 }
