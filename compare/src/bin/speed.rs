@@ -14,7 +14,7 @@ const ROUNDS: usize = 400;
 
 /// A ratio of medians that was measured, and its bar.
 struct Bar {
-    name: String,
+    name: &'static str,
     ratio: f64,
     most: f64,
 }
@@ -267,8 +267,8 @@ fn batch_table(random: &mut Random) -> Vec<Bar> {
     println!("| commands | nodes | library, median | Rust, median | ratio | library, best | Rust, best | ratio |");
     println!("|---|---|---|---|---|---|---|---|");
     let mut bars = Vec::new();
-    let mut held = |name: &str, most: f64, before: &[u8], input: &[u8]| {
-        bars.push(Bar { name: name.to_string(), ratio: batch(name, NODES, before, input), most });
+    let mut held = |name, most, before: &[u8], input: &[u8]| {
+        bars.push(Bar { name, ratio: batch(name, NODES, before, input), most });
     };
     let long = mixed([100, 0, 0, 0, 0, 0], 0, 10_000, random);
     let short = mixed([100, 0, 0, 0, 0, 0], 0, 20, random);
@@ -289,7 +289,7 @@ fn batch_table(random: &mut Random) -> Vec<Bar> {
 
 fn main() {
     let random = &mut Random::new(20261115);
-    let mut bars = vec![Bar { name: "the check, worst of the five pools, to the sum".to_string(), ratio: checks(random), most: 1.9 }];
+    let mut bars = vec![Bar { name: "the check, worst of the five pools, to the sum", ratio: checks(random), most: 1.9 }];
     println!("\na command at random places; times in nanoseconds, medians\n");
     println!("| samples | nodes | command | call by itself | of it, the check | in a batch | in the Rust program | ratio |");
     println!("|---|---|---|---|---|---|---|---|");
