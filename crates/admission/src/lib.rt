@@ -4,7 +4,7 @@ ghost use Rattle.admission.specs.Promise.{Tells, unknown, admitted};
 use tree::Known;
 
 // A pool that was admitted: the number that refuses it, or 0 and what is known of its bag.
-#[derive(Drop)]
+#[derive(Clone, Copy)]
 pub struct Admitted {
     pub number: u64,
     pub known: Known,

@@ -9,7 +9,7 @@ use pool::ROOT_WORD;
 use tree::Known;
 
 // What an edit answers, and what is known of the bag then.
-#[derive(Drop)]
+#[derive(Clone, Copy)]
 pub struct Done {
     pub answer: Answer,
     pub known: Known,

@@ -12,7 +12,7 @@ use tree::Known;
 
 // What a batch gives: 01's number, the commands run, and those commands' bytes read and written.
 #[repr(C)]
-#[derive(Drop)]
+#[derive(Clone, Copy)]
 pub struct Ran {
     pub number: u64,
     pub commands: u64,
@@ -21,14 +21,14 @@ pub struct Ran {
 }
 
 // A batch's turn: it stops with a number, or runs a command of so many bytes.
-#[derive(Drop)]
+#[derive(Clone, Copy)]
 pub enum Turn {
     Stop(u64),
     Run(Command, usize),
 }
 
 // What answers a command, and what is known of the bag then.
-#[derive(Drop)]
+#[derive(Clone, Copy)]
 pub struct Served {
     pub answer: Record,
     pub known: Known,

@@ -13,14 +13,14 @@ use pool::{COUNT, ELEMS, LENGTH, NODE_WORDS};
 use tree::{Known, Turn};
 
 // Whether an insertion was done, and what is known of the bag then.
-#[derive(Drop)]
+#[derive(Clone, Copy)]
 pub struct Placed {
     pub done: bool,
     pub known: Known,
 }
 
 // Where an insertion goes on from a node: the child with room, the index in it, and how many nodes were taken to make the room.
-#[derive(Drop)]
+#[derive(Clone, Copy)]
 pub struct Entry {
     pub id: usize,
     pub sub: usize,

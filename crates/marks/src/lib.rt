@@ -6,7 +6,7 @@ ghost use Rattle.marks.specs.Marks.{seen, Claimed, TakesOut};
 pub const WORD_MARKS: usize = 64;
 
 // A bit that was set in a word, and the word without it.
-#[derive(Drop)]
+#[derive(Clone, Copy)]
 pub struct Taken {
     pub bit: usize,
     pub rest: u64,

@@ -1,7 +1,7 @@
 // What the definitions and the code hand on to each other. There is no function here.
 
 // Where an index goes in a node: a child, the index in it, and how many children were compared.
-#[derive(Drop)]
+#[derive(Clone, Copy)]
 pub struct Place {
     pub child: usize,
     pub sub: usize,
@@ -9,14 +9,14 @@ pub struct Place {
 }
 
 // What a lookup gives: the element, and the child lengths compared on the way to it.
-#[derive(Drop)]
+#[derive(Clone, Copy)]
 pub struct Found {
     pub element: u64,
     pub compared: usize,
 }
 
 // What is done for a child of 15 elements before a removal goes into it.
-#[derive(Drop)]
+#[derive(Clone, Copy)]
 pub enum Repair {
     Nothing,
     FromLeft,
@@ -27,7 +27,7 @@ pub enum Repair {
 
 // How an index is removed from a node: inside a child, or at a separator by the last element before it, by the first
 // after it, or after a merge.
-#[derive(Drop)]
+#[derive(Clone, Copy)]
 pub enum Way {
     Inside,
     ByLast,
@@ -37,7 +37,7 @@ pub enum Way {
 
 // A call's answer: 01's number, the element or number asked for, and a lookup's comparisons; 0 where there is none.
 #[repr(C)]
-#[derive(Drop)]
+#[derive(Clone, Copy)]
 pub struct Answer {
     pub number: u64,
     pub value: u64,
@@ -46,7 +46,7 @@ pub struct Answer {
 
 // A walk's answer: 01's number, the element, and the position that the walk has then.
 #[repr(C)]
-#[derive(Drop)]
+#[derive(Clone, Copy)]
 pub struct Walked {
     pub number: u64,
     pub element: u64,
@@ -54,7 +54,7 @@ pub struct Walked {
 }
 
 // A stretch of one node's elements: the node, the first one's place in it, and how many.
-#[derive(Drop)]
+#[derive(Clone, Copy)]
 pub struct Stretch {
     pub node: usize,
     pub slot: usize,

@@ -8,14 +8,14 @@ ghost use Rattle.pieces.specs.Pieces.{Takes, TookOut, Puts, put_in, Joins, lengt
 use pool::{COUNT, ELEMS, KIDS, LENGTH, NODE_WORDS};
 
 // An element and a child that go from place to place together; the child is 0 in a leaf.
-#[derive(Drop)]
+#[derive(Clone, Copy)]
 pub struct Piece {
     pub elem: u64,
     pub kid: usize,
 }
 
 // An end of a node: where a piece is taken from, or put.
-#[derive(Drop)]
+#[derive(Clone, Copy)]
 pub struct End {
     pub node: usize,
     pub elem: usize,

@@ -9,13 +9,13 @@ ghost use Rattle.records.specs.Answers.{record_bytes, longest_record};
 pub const LONGEST_RECORD: usize = 13;
 
 // How many bytes follow a kind.
-#[derive(Drop)]
+#[derive(Clone, Copy)]
 pub enum Body {
     Bytes(usize),
     Unknown,
 }
 
-#[derive(Drop)]
+#[derive(Clone, Copy)]
 pub enum Command {
     Insert(u64, u64),
     Remove(u64),
@@ -26,7 +26,7 @@ pub enum Command {
 }
 
 // What a batch answers to a command.
-#[derive(Drop)]
+#[derive(Clone, Copy)]
 pub enum Record {
     Done,
     Element(u64),

@@ -9,14 +9,14 @@ use pool::LENGTH;
 use tree::Known;
 
 // What a removal below a node gives: the element, and how many nodes it freed.
-#[derive(Drop)]
+#[derive(Clone, Copy)]
 pub struct Cut {
     pub old: u64,
     pub freed: usize,
 }
 
 // What a removal from the whole list gives: the element, and what is known of the bag then.
-#[derive(Drop)]
+#[derive(Clone, Copy)]
 pub struct Taken {
     pub old: u64,
     pub known: Known,
@@ -24,7 +24,7 @@ pub struct Taken {
 
 // Where a removal goes on below a node: the child, the index in it, whether what is removed there takes the place of the
 // separator `at`, and how many nodes were freed on the way.
-#[derive(Drop)]
+#[derive(Clone, Copy)]
 pub struct Descent {
     pub id: usize,
     pub index: usize,

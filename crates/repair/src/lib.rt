@@ -9,7 +9,7 @@ use model::Repair;
 use pieces::End;
 
 // A child that was brought to 16 elements: its node, how many elements came in front of its own, and how many nodes that freed.
-#[derive(Drop)]
+#[derive(Clone, Copy)]
 pub struct Refill {
     pub id: usize,
     pub ahead: usize,

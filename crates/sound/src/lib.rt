@@ -24,7 +24,7 @@ const ALL: u64 = 0xffff_ffff_ffff_ffff;
 const STEP: usize = 16;
 
 // What the check says: 01's number, and of a sound pool the inner levels of its tree and its free nodes.
-#[derive(Drop)]
+#[derive(Clone, Copy)]
 pub struct Checked {
     pub number: u64,
     pub levels: usize,
@@ -32,7 +32,7 @@ pub struct Checked {
 }
 
 // What is found of the tree, its inner levels, or of the chain, its nodes; or that it is not right.
-#[derive(Drop)]
+#[derive(Clone, Copy)]
 pub enum Part {
     Wrong,
     Right(usize),

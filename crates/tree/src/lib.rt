@@ -6,7 +6,7 @@ use model::{Found, Stretch};
 use pool::{ELEMS, NODE_WORDS};
 
 // What is known of the bag in a pool: the root's id, 0 for none, the inner levels, and how many nodes are free.
-#[derive(Drop)]
+#[derive(Clone, Copy)]
 pub struct Known {
     pub root: usize,
     pub levels: usize,
@@ -14,7 +14,7 @@ pub struct Known {
 }
 
 // Where an index goes from a node: the finder's place, the child's id, and whether it is the separator after the child.
-#[derive(Drop)]
+#[derive(Clone, Copy)]
 pub struct Turn {
     pub child: usize,
     pub sub: usize,

@@ -11,7 +11,7 @@ use tree::Known;
 
 // Some words of the pool: the first one's place, and how many.
 #[repr(C)]
-#[derive(Drop)]
+#[derive(Clone, Copy)]
 pub struct Span {
     pub start: usize,
     pub count: usize,
