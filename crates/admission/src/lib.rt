@@ -1,4 +1,6 @@
 // A pool is admitted, whatever its words: it is checked in full, and refused by 01's numbers or known to hold a bag.
+#![tactic(auto)]
+
 ghost use Rattle.admission.specs.Promise.{Tells, unknown, admitted};
 
 use tree::Known;

@@ -1,4 +1,6 @@
 // The door's calls under the names that C and Rust link. A lent slice passes as a pointer and its number of words.
+#![tactic(auto)]
+
 ghost use Rattle.model.specs.Calls.{refused, check_call, len_call, get_call, skip_call, stays, insert_call, push_call, replace_call, remove_call};
 ghost use Rattle.views.specs.Part.{nowhere, part_call};
 ghost use Rattle.admission.specs.Promise.{Edits, Tells, Compares, Formats};

@@ -1,4 +1,6 @@
 // The batch: commands in bytes, run one after the other on any words at all, which are checked once.
+#![tactic(auto)]
+
 ghost use Rattle.batch.specs.Batch.{Batches};
 
 use commands::Ran;

@@ -1,4 +1,6 @@
 // The calls on a pool that is known to hold a bag. What is known of it goes in by value, and comes back brought up to date.
+#![tactic(auto)]
+
 ghost use Rattle.std.specs.Prelude.{◌≡◌, ◌<◌, length, get_or};
 ghost use Rattle.pool.specs.Layout.{root_word};
 ghost use Rattle.model.specs.Calls.{refused, gives, length_of, get_call, insert_call, push_call, replace_call, remove_call};

@@ -1,4 +1,6 @@
 // The chain of free nodes: the first is taken, a node is given back in front, and formatting gives it every node.
+#![tactic(auto)]
+
 ghost use Rattle.std.specs.Prelude.{◌≡◌, List, ℕ, ◌<◌, length};
 ghost use Rattle.lists.specs.Lists.{count};
 ghost use Rattle.model.specs.Tree.{empty};

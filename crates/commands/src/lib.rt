@@ -1,4 +1,6 @@
 // The commands of a batch, one after the other, on a pool that is known to hold a bag.
+#![tactic(auto)]
+
 ghost use Rattle.std.specs.Prelude.{◌≡◌, cond, eqb, length};
 ghost use Rattle.calls.specs.Does.{Ready};
 ghost use Rattle.records.specs.declared.Record.TheVariants.{Refusal};

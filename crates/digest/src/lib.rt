@@ -1,4 +1,5 @@
 // A digest of many numbers, by which a program's output tells whether any of them is another.
+#![tactic(auto)]
 
 // A digest with one more number in it. Sums carry upwards and shifts go down, so that equal numbers do not cancel out.
 pub fn rolled(digest: u64, x: u64) -> u64 {

@@ -1,4 +1,6 @@
 // The calls that firmware makes, on any words at all. Each checks the pool in full, and refuses by 01's numbers.
+#![tactic(auto)]
+
 ghost use Rattle.model.specs.Calls.{refused, check_call, len_call, get_call, skip_call, stays, insert_call, push_call, replace_call, remove_call};
 ghost use Rattle.views.specs.Part.{nowhere, part_call};
 ghost use Rattle.admission.specs.Promise.{Edits, Tells, Compares, Formats, Windows};

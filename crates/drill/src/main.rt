@@ -1,9 +1,12 @@
 // Builds and empties a long list in every pair of orders, and writes for each pair a digest of the pool's words and the answers.
+#![tactic(auto)]
+
 ghost use Rattle.std.specs.Prelude.{◌≤◌};
 
 use digest::{rolled, rolled_words};
 use model::Answer;
 use pool::{HEAD_WORDS, NODE_WORDS};
+use std::io;
 
 // How long the list grows, and nodes enough for it: fewer than 15 elements a node.
 const ELEMENTS: u64 = 2000;
@@ -58,12 +61,11 @@ fn round(pool: &mut [u64], up: u64, down: u64) -> u64 {
     rolled_words(empty, pool)
 }
 
-fn main() {
+fn main(rt: HostRuntime) -> io::Result<()> {
     let mut pool = [0u64; WORDS];
-    let mut pair = 0;
-    while pair < 16 {
-        io::print_hex(1, round(&mut pool, pair / 4, pair % 4), 16);
-        io::write_all(1, b"\n");
-        pair += 1;
+    for pair in 0..16 {
+        let digest = round(&mut pool, pair / 4, pair % 4);
+        println!(rt; "{digest:016x}")?;
     }
+    Ok(())
 }

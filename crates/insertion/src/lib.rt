@@ -1,4 +1,6 @@
 // Insertion into a tree that is known to stand in the pool.
+#![tactic(auto)]
+
 ghost use Rattle.std.specs.Prelude.{◌≡◌, ◌+◌, leb, ltb, length};
 ghost use Rattle.lists.specs.Lists.{insert_at};
 ghost use Rattle.model.specs.Insert.{needed_below, needed as neededFor};

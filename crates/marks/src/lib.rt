@@ -1,4 +1,6 @@
 // Marks of the numbers from 1 on: one bit for each, in words that the caller lends.
+#![tactic(auto)]
+
 ghost use Rattle.std.specs.Prelude.{◌≡◌, ◌-◌, ◌*◌, ◌%◌, ◌^◌, ◌≤◌, ◌<◌, eqb, length};
 ghost use Rattle.marks.specs.Marks.{seen, Claimed, TakesOut};
 

@@ -18,7 +18,7 @@ use Rattle.model.specs.declared.Way.{Way}
 use Rattle.model.specs.declared.Way.TheVariants.{Inside, ByLast, ByFirst, ByMerge}
 use Rattle.model.specs.Remove.{is_thin, merge, Filled, fill, Shrunk, back, swapped}
 use Rattle.model.specs.Remove.{choose_way, way_for, remove_step, remove}
-use Rattle.model.proofs.Nodes.{node, held, child, flat-length, size_least}
+use Rattle.model.proofs.Nodes.{held, child, flat-length, size_least}
 use Rattle.model.proofs.Splice.{splice, left, right, left_length, splice_flat, splice_elems, splice_fit}
 use Rattle.model.proofs.Splice.{flat_one, with_flat, with_fit, with_held, two, flat_two, held_two}
 use Rattle.model.proofs.Find.{into, Step, step, separator}

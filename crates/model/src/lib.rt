@@ -1,4 +1,5 @@
 // What the definitions and the code hand on to each other. There is no function here.
+#![tactic(auto)]
 
 // Where an index goes in a node: a child, the index in it, and how many children were compared.
 #[derive(Clone, Copy)]

@@ -1,5 +1,7 @@
 // Pieces of nodes: an element with a child is taken out of a node, put into one, or goes through a separator from one to another.
 // A leaf's child words are all 0, and stay so: they are not moved.
+#![tactic(auto)]
+
 ghost use Rattle.std.specs.Prelude.{◌≡◌, ◌∷◌, ◌++◌, ◌+◌, get_or};
 ghost use Rattle.pool.specs.Layout.{node_block, with_block};
 ghost use Rattle.pool.specs.Parts.{kid_at};

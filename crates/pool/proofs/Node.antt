@@ -101,7 +101,7 @@ module _ (w : List ℕ) (h : ℕ) (t : Tree h) (S : Stored w t.id (root_block h 
       (sym (run-run (block w t.id) 2 (count_at w t.id) c n (omega (arith, at_count))) ∙ rw (elems_read m))
 
 -- each node of a tree stands where the tree does
-pub at_node : {w : List ℕ} {g h : ℕ} {u : Tree g} {t : Tree h} → NodeOf g u h t → At w h t → At w g u
+pub at_node : {w : List ℕ} {g : ℕ} {u : Tree g} {h : ℕ} {t : Tree h} → NodeOf g u h t → At w h t → At w g u
 at_node root A = A
 at_node (kids c l N) A = at_node N (A.each c l)
 

@@ -1,4 +1,6 @@
 // The pool: where a node's words are, what they say, and the child finder.
+#![tactic(auto)]
+
 ghost use Rattle.std.specs.Prelude.{◌≡◌, ◌+◌, ◌^◌, ◌<◌, ◌≤◌, eqb, leb, length, get_or};
 ghost use Rattle.model.specs.Tree.{find_in};
 ghost use Rattle.pool.specs.Layout.{node_words, start};

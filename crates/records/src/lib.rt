@@ -1,4 +1,6 @@
 // The bytes of commands and of answers: numbers, kinds, and the records that a batch writes.
+#![tactic(auto)]
+
 ghost use Rattle.std.specs.Prelude.{◌≡◌, ◌∷◌, ◌++◌, ◌+◌, ◌≤◌, ◌<◌, length};
 ghost use Rattle.std.proofs.lemmas.List.Edits.{sets};
 ghost use Rattle.records.specs.Numbers.{bytes_of, number_at};

@@ -10,7 +10,7 @@ use lib.Seq.{map-set_same}
 use Rattle.lists.specs.Lists.{sum, remove_at}
 use Rattle.lists.proofs.Sums.{total_set}
 use Rattle.lists.proofs.Edits.{length-remove_at}
-use Rattle.model.specs.Tree.{Tree, kid, none, size, ids, flat}
+use Rattle.model.specs.Tree.{Tree, none, size, ids, flat}
 use Rattle.model.specs.Fit.{Fit}
 use Rattle.model.specs.Remove.{Shrunk, remove}
 use Rattle.model.proofs.Nodes.{flat-length}

@@ -1,4 +1,6 @@
 // Removal from a tree that is known to stand in the pool.
+#![tactic(auto)]
+
 ghost use Rattle.model.specs.Tree.{rooted};
 ghost use Rattle.model.specs.Remove.{remove, lowered};
 ghost use Rattle.tree.specs.Stands.{Became};

@@ -1,4 +1,6 @@
 // A child of a node that stands in the pool is brought to 16 elements: by a neighbour that lends, or by a merge with one.
+#![tactic(auto)]
+
 ghost use Rattle.std.specs.Prelude.{◌≡◌, ◌∷◌, suc, ◌+◌, ◌-◌, ◌<◌};
 ghost use Rattle.model.specs.Tree.{kid};
 ghost use Rattle.model.specs.Remove.{is_thin, merge, borrow_left, borrow_right, repair_for, repaired, fill};

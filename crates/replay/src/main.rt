@@ -1,10 +1,13 @@
 // Replays commands that were recorded beside the original Rust. The first line of the input says how. Each block after it is a number
 // of nodes, a number of bytes, 4 bytes each, and so many bytes of commands: they are run on an empty pool, and their answers and a digest
 // of the pool's words are written.
-ghost use Rattle.std.specs.Prelude.{◌+◌, ◌*◌, ◌≤◌, length};
-ghost use Rattle.io.specs.Counts.{IsPrefixLen};
+#![tactic(auto)]
+
+ghost use Rattle.std.specs.Prelude.{◌+◌, ◌*◌, ◌≤◌, length, IfOk};
 
 use pool::{HEAD_WORDS, NODE_WORDS};
+use std::io;
+use std::io::{BufWriter, Read, Write};
 
 const MOST_INPUT: usize = 131072;
 
@@ -24,7 +27,7 @@ const ROOM: usize = 9 * MOST_COMMANDS + 4;
 // Runs commands on an empty list, and gives how many bytes of the output are their answers.
 fn answer(pool: &mut [u64], commands: &[u8], output: &mut [u8]) -> usize
     requires { 9 * length commands.now + 4 ≤ length output.old }
-    ensures { IsPrefixLen result output.new }
+    ensures { result ≤ length output.new }
 {
     door::format(pool);
     let ran = batch::batch(pool, commands, output);
@@ -32,7 +35,7 @@ fn answer(pool: &mut [u64], commands: &[u8], output: &mut [u8]) -> usize
 }
 
 // Writes what the commands of a block give.
-fn show(nodes: usize, commands: &[u8])
+fn show(out: &mut impl Write, nodes: usize, commands: &[u8]) -> io::Result<()>
     requires { (nodes ≤ 60) × (length commands.now ≤ 24576) }
 {
     let mut words = [0u64; WORDS];
@@ -40,30 +43,30 @@ fn show(nodes: usize, commands: &[u8])
     let end = HEAD_WORDS + NODE_WORDS * nodes;
     let pool = &mut words[..end];
     let n = answer(pool, commands, &mut output);
-    io::write_all(1, &output[..n]);
-    io::print_hex(1, digest::rolled_words(0, pool), 16);
-    io::write_all(1, b"\n");
+    out.write_all(&output[..n])?;
+    let words_digest = digest::rolled_words(0, pool);
+    writeln!(out, "{words_digest:016x}")
 }
 
 // The block at a place: gives the place after it, or the input's end where no whole block stands.
-fn replay(input: &[u8], at: usize) -> usize
+fn replay(out: &mut impl Write, input: &[u8], at: usize) -> io::Result<usize>
     requires { at + 8 ≤ length input.now }
-    ensures { (at + 8 ≤ result) × (result ≤ length input.now) }
+    ensures { IfOk result (λ place. (at + 8 ≤ place) × (place ≤ length input.now)) }
 {
     let nodes = records::read_number(input, at, 4) as usize;
     let n = records::read_number(input, at + 4, 4) as usize;
     let from = at + BLOCK_HEAD;
     if MOST_NODES < nodes {
-        return input.len();
+        return Ok(input.len());
     }
     if MOST_COMMANDS < n {
-        return input.len();
+        return Ok(input.len());
     }
     if input.len() - from < n {
-        return input.len();
+        return Ok(input.len());
     }
-    show(nodes, &input[from..from + n]);
-    from + n
+    show(out, nodes, &input[from..from + n])?;
+    Ok(from + n)
 }
 
 // The place after the first line.
@@ -80,15 +83,18 @@ fn after_line(input: &[u8]) -> usize
     at
 }
 
-fn replay_all(input: &[u8]) {
+fn replay_all(out: &mut impl Write, input: &[u8]) -> io::Result<()> {
     let mut at = after_line(input);
     while input.len() - at >= BLOCK_HEAD {
-        at = replay(input, at);
+        at = replay(out, input, at)?;
     }
+    Ok(())
 }
 
-fn main() {
-    let mut input = [0u8; MOST_INPUT];
-    let n = io::read_full(0, &mut input);
-    replay_all(&input[..n]);
+fn main(rt: HostRuntime) -> io::Result<()> {
+    let mut input = Vec::new(rt.alloc());
+    rt.stdin().take(MOST_INPUT as u64).read_to_end(&mut input)?;
+    let mut out = BufWriter::new(rt.alloc(), io::writer(&rt))?;
+    replay_all(&mut out, &input)?;
+    out.flush()
 }

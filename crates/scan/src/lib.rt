@@ -1,4 +1,6 @@
 // What the program does between reading and writing: a batch on an empty list, and the last record.
+#![tactic(auto)]
+
 ghost use Rattle.std.specs.Prelude.{◌≡◌, ◌+◌, ◌≤◌, length};
 ghost use Rattle.std.proofs.lemmas.List.Edits.{sets};
 ghost use Rattle.scan.specs.Scan.{output_bytes, closing, Scans};

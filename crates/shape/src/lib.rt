@@ -1,4 +1,6 @@
 // The shape of the tree in a pool's words: the first pass of the check of 01. The words may be any at all.
+#![tactic(auto)]
+
 ghost use Rattle.std.specs.Prelude.{◌≡◌, ◌+◌, ◌*◌, ◌^◌, ◌<◌, ◌≤◌, length};
 ghost use Rattle.pool.specs.Layout.{head_words, node_words};
 ghost use Rattle.pool.specs.Parts.{count_at, levels_at};

@@ -1,5 +1,7 @@
 // The soundness check of a pool (01): the shape of the tree, then the words of its nodes, then the free chain, and that every
 // node was met. One bit for each node tells which were met.
+#![tactic(auto)]
+
 ghost use Rattle.std.specs.Prelude.{◌≡◌, ℕ, ◌+◌, ◌*◌, ◌<◌, ◌≤◌, length};
 ghost use Rattle.pool.specs.Layout.{node_words, block};
 ghost use Rattle.pool.specs.Parts.{Inside, count_at, kid_at, kid_ids_at};

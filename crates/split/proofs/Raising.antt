@@ -11,7 +11,6 @@ use Rattle.lists.proofs.Counts.{count-append, count_first, one_same}
 use Rattle.model.specs.Tree.{Tree, none, size, ids}
 use Rattle.model.specs.Insert.{split_child}
 use Rattle.model.proofs.Nodes.{node, held, held_inner, fits, child}
-use Rattle.model.proofs.Insert.{full}
 use Rattle.pool.specs.Layout.{with_block, node_block, kid_ids, root_block}
 use Rattle.pool.specs.Parts.{Inside, At, length_at}
 use Rattle.chain.specs.Chain.{Free, Took}

@@ -1,4 +1,6 @@
 // Full nodes split: a child under its parent, and the root under a new root.
+#![tactic(auto)]
+
 ghost use Rattle.std.specs.Prelude.{◌≡◌, [], ◌∷◌, map, suc, ◌+◌, get_or, take, drop};
 ghost use Rattle.lists.specs.Lists.{sum, insert_at};
 ghost use Rattle.model.specs.Insert.{split_child};

@@ -1,4 +1,6 @@
 // Lookup and replacement in a tree that is known to stand in the pool.
+#![tactic(auto)]
+
 ghost use Rattle.std.specs.Prelude.{◌≡◌, ◌+◌, ◌*◌, ◌^◌, ◌<◌, get_or};
 ghost use Rattle.tree.specs.Lookup.{Above, Turns, Has, Got, Counted, Spans, HasElement, Swapped, Replaced};
 

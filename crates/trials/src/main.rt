@@ -1,8 +1,12 @@
 // Tries the batch on short inputs and the program's work on long ones, and writes a line for each case, all in hexadecimal.
+#![tactic(auto)]
+
 ghost use Rattle.std.specs.Prelude.{◌*◌, ◌≤◌, length};
 
 use pool::{HEAD_WORDS, NODE_WORDS};
 use scan::{MOST_INPUT, OUTPUT_BYTES};
+use std::io;
+use std::io::{BufWriter, Write};
 
 const WORDS: usize = HEAD_WORDS + NODE_WORDS;
 
@@ -23,58 +27,55 @@ const LAST_RECORD: usize = 10;
 // How many insertions with a lookup behind each go into the program's input.
 const INSERTIONS: usize = 113;
 
-fn show(bytes: &[u8]) {
-    io::write_all(1, b" ");
-    let mut i = 0;
-    while i < bytes.len() {
-        io::print_hex(1, records::wide(bytes[i]), 2);
-        i += 1;
+fn show(out: &mut impl Write, bytes: &[u8]) -> io::Result<()> {
+    write!(out, " ")?;
+    for byte in bytes {
+        write!(out, "{byte:02x}")?;
     }
+    Ok(())
 }
 
-fn show_number(n: u64) {
-    io::write_all(1, b" ");
-    io::print_hex(1, n, 1);
+fn show_number(out: &mut impl Write, n: u64) -> io::Result<()> {
+    write!(out, " {n:x}")
 }
 
-fn show_list(pool: &[u64]) {
+fn show_list(out: &mut impl Write, pool: &[u64]) -> io::Result<()> {
     let n = door::len(pool).value;
-    let mut i = 0;
-    while i < n {
-        show_number(door::get(pool, i).value);
-        i += 1;
+    for i in 0..n {
+        show_number(out, door::get(pool, i).value)?;
     }
+    Ok(())
 }
 
 // A batch with so much room: its input, what it gives, all of the output, and the list that it leaves.
-fn run(pool: &mut [u64], input: &[u8], room: usize)
+fn run(out: &mut impl Write, pool: &mut [u64], input: &[u8], room: usize) -> io::Result<()>
     requires { room ≤ 27 }
 {
     let mut output = [UNTOUCHED; ROOM];
     let ran = batch::batch(pool, input, &mut output[..room]);
-    io::write_all(1, b"batch");
-    show(input);
-    show_number(ran.number);
-    show_number(ran.commands);
-    show_number(ran.read);
-    show_number(ran.written);
-    show(&output);
-    show_list(pool);
-    io::write_all(1, b"\n");
+    write!(out, "batch")?;
+    show(out, input)?;
+    show_number(out, ran.number)?;
+    show_number(out, ran.commands)?;
+    show_number(out, ran.read)?;
+    show_number(out, ran.written)?;
+    show(out, &output)?;
+    show_list(out, pool)?;
+    writeln!(out)
 }
 
 // 01's example, on an empty list.
-fn example(pool: &mut [u64], room: usize)
+fn example(out: &mut impl Write, pool: &mut [u64], room: usize) -> io::Result<()>
     requires { room ≤ 27 }
 {
     door::format(pool);
     let input = [3u8, 7, 0, 0, 0, 0, 0, 0, 0, 4, 0, 0, 0, 0, 2, 1, 0, 0, 0];
-    run(pool, &input, room);
+    run(out, pool, &input, room)
 }
 
 // The first n bytes of a kind and what follows, on a list of three. A kind with a shorter body has commands behind it, up to one cut short
 // or, behind a push, an unknown one.
-fn command(pool: &mut [u64], kind: u8, n: usize)
+fn command(out: &mut impl Write, pool: &mut [u64], kind: u8, n: usize) -> io::Result<()>
     requires { n ≤ 13 }
 {
     door::format(pool);
@@ -82,51 +83,48 @@ fn command(pool: &mut [u64], kind: u8, n: usize)
     door::push(pool, 0xB);
     door::push(pool, 0xC);
     let input = [kind, 2, 0, 0, 0, 6, 3, 0, 0, 0xFF, 0, 0, 0];
-    run(pool, &input[..n], ROOM);
+    run(out, pool, &input[..n], ROOM)
 }
 
-fn each_kind(pool: &mut [u64]) {
-    let mut kind: u64 = 0;
-    while kind < 256 {
-        command(pool, kind as u8, COMMAND);
-        kind += 1;
+fn each_kind(out: &mut impl Write, pool: &mut [u64]) -> io::Result<()> {
+    for kind in 0..=u8::MAX {
+        command(out, pool, kind, COMMAND)?;
     }
+    Ok(())
 }
 
-fn each_cut(pool: &mut [u64]) {
-    let mut i: usize = 0;
-    while i < CUT_COMMANDS {
-        command(pool, (i / CUTS + 1) as u8, i % CUTS);
-        i += 1;
+fn each_cut(out: &mut impl Write, pool: &mut [u64]) -> io::Result<()> {
+    for i in 0..CUT_COMMANDS {
+        command(out, pool, (i / CUTS + 1) as u8, i % CUTS)?;
     }
+    Ok(())
 }
 
 // The program's work: the lengths of input and answer, the last record, and a digest of the answer.
-fn work(input: &[u8]) {
+fn work(out: &mut impl Write, input: &[u8]) -> io::Result<()> {
     let mut output = [UNTOUCHED; OUTPUT_BYTES];
     let n = scan::scan(input, &mut output);
     let last = n - LAST_RECORD;
-    io::write_all(1, b"program");
-    show_number(input.len() as u64);
-    show_number(n as u64);
-    show(&output[last..n]);
-    show_number(digest::rolled_bytes(0, &output[..n]));
-    io::write_all(1, b"\n");
+    write!(out, "program")?;
+    show_number(out, input.len() as u64)?;
+    show_number(out, n as u64)?;
+    show(out, &output[last..n])?;
+    show_number(out, digest::rolled_bytes(0, &output[..n]))?;
+    writeln!(out)
 }
 
 // As much of one kind as is run, and a byte more.
-fn one_kind(kind: u8) {
+fn one_kind(out: &mut impl Write, kind: u8) -> io::Result<()> {
     let input = [kind; MOST_INPUT + 1];
-    work(&input[..MOST_INPUT]);
-    work(&input);
+    work(out, &input[..MOST_INPUT])?;
+    work(out, &input)
 }
 
-fn each_long() {
-    let mut kind: u64 = 0;
-    while kind < 8 {
-        one_kind(kind as u8);
-        kind += 1;
+fn each_long(out: &mut impl Write) -> io::Result<()> {
+    for kind in 0..8 {
+        one_kind(out, kind)?;
     }
+    Ok(())
 }
 
 // Insertions in the middle, and a lookup behind each.
@@ -142,19 +140,21 @@ fn fill(input: &mut [u8])
     }
 }
 
-fn insertions() {
+fn insertions(out: &mut impl Write) -> io::Result<()> {
     let mut input = [6u8; MOST_INPUT];
     fill(&mut input);
-    work(&input);
+    work(out, &input)
 }
 
-fn main() {
+fn main(rt: HostRuntime) -> io::Result<()> {
+    let mut out = BufWriter::new(rt.alloc(), io::writer(&rt))?;
     let mut pool = [0u64; WORDS];
-    example(&mut pool, ROOM);
-    example(&mut pool, ROOM - 1);
-    each_kind(&mut pool);
-    each_cut(&mut pool);
-    work(b"");
-    each_long();
-    insertions();
+    example(&mut out, &mut pool, ROOM)?;
+    example(&mut out, &mut pool, ROOM - 1)?;
+    each_kind(&mut out, &mut pool)?;
+    each_cut(&mut out, &mut pool)?;
+    work(&mut out, b"")?;
+    each_long(&mut out)?;
+    insertions(&mut out)?;
+    out.flush()
 }

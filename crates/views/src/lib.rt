@@ -1,4 +1,6 @@
 // Walks, equality and the window, on a pool that is known to hold a bag.
+#![tactic(auto)]
+
 ghost use Rattle.std.specs.Prelude.{◌≡◌};
 ghost use Rattle.model.specs.Calls.{skip_call, equal_call};
 ghost use Rattle.calls.specs.Does.{Ready};

@@ -1,4 +1,6 @@
 // Runs of words in a slice: copied, cleared, and moved by one word. `sets xs at ys` is xs with ys stored from index `at` on.
+#![tactic(auto)]
+
 ghost use Rattle.std.specs.Prelude.{◌≡◌, [], ◌∷◌, ◌++◌, ◌⊎◌, ◌+◌, ◌-◌, ◌<◌, ◌≤◌, length, replicate, get_or};
 ghost use Rattle.std.proofs.lemmas.List.Edits.{sets};
 ghost use Rattle.words.specs.Words.{run};

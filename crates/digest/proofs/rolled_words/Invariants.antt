@@ -1,0 +1,11 @@
+-- `rolled_words` meets its contract: every index is below the length.
+use Rattle.std.proofs.Common.{◌-◌, ◌≤◌, length}
+use Rattle.digest.proofs.rolled_words.Given as goal
+
+abbrev pub invariant-loop-i : goal.invariant-loop-i
+invariant-loop-i l =
+    l.i ≤ length l.words
+
+abbrev pub decreases-loop-i : goal.decreases-loop-i
+decreases-loop-i l =
+    length l.words - l.i

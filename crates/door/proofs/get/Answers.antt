@@ -1,0 +1,17 @@
+-- `get` meets its contract: refused by the check's number, or what the call on the bag tells.
+use borrow.Author.Rules.{rules}
+use Rattle.model.specs.Calls.{refused}
+use Rattle.admission.proofs.Admitting.{refused_tells, held_promise, some_ready}
+use Rattle.door.proofs.get.Goals as goal
+
+pub returns-then-o-ne0 : goal.returns-then-o-ne0
+returns-then-o-ne0 c =
+    refused_tells c.admit-o.ensures refused c.if-o-ne0.true c.refuse.ensures
+
+pub get-requires : goal.get-requires
+get-requires c =
+    some_ready c.admit-o.ensures c.if-o-ne0.false
+
+pub returns : goal.returns
+returns c =
+    held_promise c.admit-o.ensures c.if-o-ne0.false c.get.ensures
