@@ -10,9 +10,9 @@ use crate::random::Random;
 const NODES: usize = 60;
 const MOST_INPUT: usize = 2048;
 
-/// Where `rt check scanner` leaves the program.
+/// Where `rt run` leaves the program.
 pub fn path() -> PathBuf {
-    Path::new(env!("CARGO_MANIFEST_DIR")).join("../target/bin/scanner")
+    Path::new(env!("CARGO_MANIFEST_DIR")).join("../crates/scanner/out/scanner")
 }
 
 fn due(input: &[u8]) -> Result<Vec<u8>, String> {

@@ -155,7 +155,7 @@ fn main() -> Result<(), Box<dyn std::error::Error>> {
         _ => usage(),
     };
     if !program::path().exists() {
-        return Err(format!("{} is missing: run `rt check scanner` at the top of the repository", program::path().display()).into());
+        return Err(format!("{} is missing: run `rt run` in crates/scanner", program::path().display()).into());
     }
     println!("seed {seed}");
     let tally = compare(plan, seed);

@@ -107,3 +107,4 @@ refusal_numbers c w a v C (b, H) n e = go (eqb a.number 0) refl e (rw same.0 (pe
     go false q e (inl z) = inl (cc)
     go false q e (inr (inl z)) = inr (inl (cc))
     go false q e (inr (inr (inl z))) = absurd (eqb-false a.number 0 q z)
+    go false q e (inr (inr (inr z))) = elim z [ ]

@@ -140,7 +140,7 @@ pub fn part(pool: &[u64], index: u64) -> Span
 
 // The stretch of the pool that holds the element at an index and those after it in the same leaf.
 pub fn window(pool: &[u64], index: u64) -> &[u64]
-    ensures { Windows index pool.now pool.entry.ptr result.now result.ref_ptr }
+    ensures { Windows index pool.now pool.entry.ref_ptr result.now result.ref_ptr }
 {
     let s = part(pool, index);
     let a = s.start;

@@ -1,12 +1,11 @@
 -- A lookup and the window, from what is known of the bag.
 use mathlib.Core.Path.{◌≡◌, sym, ap, ◌∙◌}
 use mathlib.Core.List.{List}
-use Prim.Native.Nat.{ℕ, ◌+◌, ◌-◌, ◌≤◌, ◌<◌}
+use Prim.Native.Nat.{ℕ, ◌+◌, ◌≤◌, ◌<◌}
 use native.Mathlib.Decide.{dec_lt}
 use native.Mathlib.Omega.{arith}
 use borrow.Author.Tests.{le-leb, lt-leb}
 use lib.ListN.{length, get_or}
-use Rattle.lists.specs.Lists.{count}
 use Rattle.model.specs.declared.Found.{Found}
 use Rattle.model.specs.declared.Stretch.{Stretch}
 use Rattle.model.specs.Tree.{Tree, get, Root, bare, rooted, Bag, list_of}
@@ -16,7 +15,6 @@ use Rattle.words.specs.Words.{run}
 use Rattle.words.proofs.Laws.{run_length}
 use Rattle.model.proofs.Bags.{bag_get_lem}
 use Rattle.model.proofs.Nodes.{flat-length, most}
-use Rattle.pool.specs.Layout.{start}
 use Rattle.pool.specs.Parts.{Inside, At, RootAt}
 use Rattle.tree.specs.declared.Known.{Known}
 use Rattle.tree.specs.Stands.{BagStands}

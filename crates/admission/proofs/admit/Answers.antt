@@ -1,5 +1,4 @@
 -- `admit` meets its contract: what the check says, and what is known of a pool that it finds sound.
-use borrow.Author.Rules.{rules}
 use Rattle.admission.proofs.Admitting.{admits_refused, admits_long, admits_known}
 use Rattle.admission.proofs.admit.Goals as goal
 
@@ -13,4 +12,4 @@ known_of-requires c =
 
 pub returns : goal.returns
 returns c =
-    admits_known c.check-c.ensures c.if-c-ne0.false _ c.Known-of.ensures
+    admits_known c.check-c.ensures c.if-c-ne0.false _ c.known_of.ensures

@@ -1,6 +1,5 @@
 -- `batch` meets its contract: refused by the check's number with nothing changed, or what `run` does.
 use mathlib.Core.Path.{refl}
-use borrow.Author.Rules.{rules}
 use Rattle.admission.proofs.Admitting.{refused_promise, held_promise, some_ready}
 use Rattle.batch.specs.Batch.{ran_nothing, Idle}
 use Rattle.batch.proofs.batch.Goals as goal

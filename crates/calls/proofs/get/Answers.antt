@@ -2,18 +2,11 @@
 use mathlib.Core.Path.{sym, ap, ◌∙◌}
 use Prim.Native.Nat.{◌<◌}
 use native.Mathlib.Omega.{arith}
-use borrow.Author.Rules.{rules}
 use Rattle.model.specs.declared.Found.{Found}
 use Rattle.model.specs.Calls.{length_of}
 use Rattle.model.proofs.Calls.{get_beyond, get-done}
-use Rattle.calls.specs.Does.{Ready}
 use Rattle.calls.proofs.Reading.{root_has, root_got}
 use Rattle.calls.proofs.get.Goals as goal
-use Rattle.calls.proofs.get.Goals.{Else-len-index}
-
-below : (c : Else-len-index) (s : Ready c.args.pool.now c.args.known)
-    → c.args.index < length_of s.bag
-below c s = omega (arith, c.len.ensures s)
 
 pub returns-then-len-index : goal.returns-then-len-index
 returns-then-len-index c s =
@@ -21,10 +14,10 @@ returns-then-len-index c s =
 
 pub look_up-f-requires : goal.look_up-f-requires
 look_up-f-requires c =
-    root_has c.requires _ (below c c.requires)
+    root_has c.requires _ (omega (arith, c.len.ensures c.requires))
 
 pub returns : goal.returns
 returns c s =
-    let l = below c.before s in
+    let l : c.args.index < length_of s.bag = omega (arith, c.len.ensures s) in
     ap (λ (f : Found). record { number = 0; value = f.element; compared = f.compared }) (root_got s _ l _ c.look_up-f.ensures)
     ∙ sym (get-done s.bag _ l)

@@ -1,6 +1,5 @@
 -- `insert` meets its contract: what the tree function leaves with the new root stored, unless the index or the room refuses it.
 use native.Mathlib.Omega.{arith}
-use borrow.Author.Rules.{rules}
 use borrow.Author.Tests.{not-true, not-false}
 use Rattle.model.proofs.Calls.{insert_beyond}
 use Rattle.calls.proofs.Bags.{root_inside}
@@ -19,7 +18,7 @@ insert-r-requires c =
 
 pub returns-then-not-r : goal.returns-then-not-r
 returns-then-not-r c s =
-    insert-refused s _ _ (omega (arith, c.len.ensures s)) _ c.insert-r.ensures (c.if-not-r.true) _
+    insert-refused s _ _ (omega (arith, c.len.ensures s)) _ c.insert-r.ensures (not-true _ c.if-not-r.true) _
     c.refuse-then-not-r.ensures
 
 pub bounds-pool-0 : goal.bounds-pool-0
@@ -30,4 +29,4 @@ bounds-pool-0 c =
 pub returns : goal.returns
 returns c s =
     insert_does s _ _ (omega (arith, c.len.ensures s)) _ c.insert-r.ensures
-    (c.if-not-r.false) _ c.give.ensures
+    (not-false _ c.if-not-r.false) _ c.give.ensures

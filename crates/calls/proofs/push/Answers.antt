@@ -1,7 +1,6 @@
 -- `push` meets its contract: an insertion behind the last element.
 use mathlib.Core.Path.{sym, ap}
 use Prim.Native.Nat.{ℕ}
-use borrow.Author.Rules.{rules}
 use Rattle.model.specs.Calls.{insert_call, push_call}
 use Rattle.calls.proofs.Editing.{does}
 use Rattle.calls.proofs.push.Goals as goal

@@ -1,6 +1,5 @@
 -- `remove` meets its contract: what the tree function leaves with the new root stored, unless the index is past the end.
 use native.Mathlib.Omega.{arith}
-use borrow.Author.Rules.{rules}
 use Rattle.model.proofs.Calls.{remove_beyond}
 use Rattle.calls.proofs.Bags.{root_inside}
 use Rattle.calls.proofs.Editing.{does, remove_ready, remove_does}

@@ -1,6 +1,5 @@
 -- `replace` meets its contract: what the tree function leaves, unless the index is past the end.
 use native.Mathlib.Omega.{arith}
-use borrow.Author.Rules.{rules}
 use Rattle.model.proofs.Calls.{replace_beyond}
 use Rattle.calls.proofs.Reading.{root_has}
 use Rattle.calls.proofs.Editing.{does, replace_does}

@@ -1,6 +1,5 @@
 -- `check` meets its contract: its number, and zeros.
 use mathlib.Core.Path.{ap, ◌∙◌}
-use borrow.Author.Rules.{rules}
 use Rattle.model.specs.declared.Answer.{Answer}
 use Rattle.model.specs.Calls.{refused}
 use Rattle.admission.specs.declared.Admitted.{Admitted}

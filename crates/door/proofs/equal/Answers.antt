@@ -1,6 +1,5 @@
 -- `equal` meets its contract: the first pool is admitted, then the second, then the lists are compared.
 use mathlib.Core.Path.{◌≡◌}
-use borrow.Author.Rules.{rules}
 use Rattle.model.specs.Calls.{refused}
 use Rattle.admission.proofs.Admitting.{refused_promise, refused_tells, held_promise, some_ready}
 use Rattle.door.proofs.equal.Goals as goal

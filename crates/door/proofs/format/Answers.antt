@@ -2,8 +2,6 @@
 use mathlib.Core.Path.{◌≡◌, refl, sym, ◌∙◌}
 use Prim.Native.Nat.{ℕ}
 use native.Mathlib.Omega.{arith}
-use borrow.Author.Rules.{rules}
-use borrow.Author.Tests.{not-true, not-false}
 use Rattle.door.proofs.format.Goals as goal
 
 pub returns-then-not-length_fits : goal.returns-then-not-length_fits

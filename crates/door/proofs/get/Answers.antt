@@ -1,5 +1,4 @@
 -- `get` meets its contract: refused by the check's number, or what the call on the bag tells.
-use borrow.Author.Rules.{rules}
 use Rattle.model.specs.Calls.{refused}
 use Rattle.admission.proofs.Admitting.{refused_tells, held_promise, some_ready}
 use Rattle.door.proofs.get.Goals as goal

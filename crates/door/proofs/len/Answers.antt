@@ -1,6 +1,5 @@
 -- `len` meets its contract: refused by the check's number, or what the call on the bag tells.
 use mathlib.Core.Path.{ap, ◌∙◌}
-use borrow.Author.Rules.{rules}
 use Rattle.model.specs.Calls.{refused, gives, len_call}
 use Rattle.admission.proofs.Admitting.{refused_tells, held_promise, some_ready}
 use Rattle.door.proofs.len.Goals as goal

@@ -1,6 +1,5 @@
 -- `part` meets its contract: nowhere if refused, else what the call on the bag tells.
 use mathlib.Core.Path.{refl}
-use borrow.Author.Rules.{rules}
 use Rattle.views.specs.Part.{nowhere}
 use Rattle.admission.proofs.Admitting.{refused_tells, held_promise, some_ready}
 use Rattle.door.proofs.part.Goals as goal

@@ -1,5 +1,4 @@
 -- `remove` meets its contract: refused by the check's number with no word changed, or what the call on the bag does.
-use borrow.Author.Rules.{rules}
 use Rattle.admission.proofs.Admitting.{refused_edits, held_edits, some_ready}
 use Rattle.door.proofs.remove.Goals as goal
 

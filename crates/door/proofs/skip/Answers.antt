@@ -1,6 +1,5 @@
 -- `skip` meets its contract: refused it keeps its position, else what the call on the bag tells.
 use mathlib.Core.Path.{refl}
-use borrow.Author.Rules.{rules}
 use Rattle.model.specs.Calls.{stays}
 use Rattle.admission.proofs.Admitting.{refused_tells, held_promise, some_ready}
 use Rattle.door.proofs.skip.Goals as goal

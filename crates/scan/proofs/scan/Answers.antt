@@ -1,14 +1,13 @@
 -- `scan` meets its contract: too much input is not run; else the answers of the batch, and the last record behind them.
 use mathlib.Core.Path.{refl}
 use native.Mathlib.Omega.{arith}
-use borrow.Author.Rules.{rules}
 use Rattle.scan.proofs.Laws.{formatted, too_much, answers_fit, scans}
 use Rattle.scan.proofs.scan.Goals as goal
 
 pub returns-then-input-gt-MOST_INPUT : goal.returns-then-input-gt-MOST_INPUT
 returns-then-input-gt-MOST_INPUT c =
     let k = c.close in
-    rw k.ensures.0 (too_much _ _ (omega arith) c.requires k.ensures.1)
+    rw k.ensures.value (too_much _ _ (omega arith) c.requires k.ensures.output_after)
 
 pub close-requires-2 : goal.close-requires-2
 close-requires-2 c =
@@ -17,6 +16,6 @@ close-requires-2 c =
 pub returns : goal.returns
 returns c =
     let k = c.close-2 in
-    rw k.ensures.0
+    rw k.ensures.value
     (scans _ _ (formatted _ refl c.format.ensures) c.requires (omega arith) c.batch-ran.ensures
-    k.ensures.1)
+    k.ensures.output_after)

@@ -1,14 +1,12 @@
 use mathlib.Core.Path.{◌≡◌, sym, ap, ◌∙◌}
 use mathlib.Core.List.{List}
-use Prim.Native.Nat.{ℕ, ◌+◌, ◌-◌, ◌≤◌, ◌<◌}
+use Prim.Native.Nat.{ℕ, ◌+◌, ◌<◌}
 use native.Mathlib.Decide.{ℕ_discrete}
 use native.Mathlib.Omega.{arith}
-use borrow.Author.Rules.{rules}
 use lib.ListN.{length, get_or}
 use lib.Seq.{ext_get_or}
 use Rattle.model.specs.declared.Found.{Found}
 use Rattle.model.specs.Tree.{get, list_of}
-use Rattle.model.specs.Calls.{length_of}
 use Rattle.tree.specs.declared.Known.{Known}
 use Rattle.tree.specs.Lookup.{Has}
 use Rattle.calls.specs.Does.{Ready}

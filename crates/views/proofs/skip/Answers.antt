@@ -2,18 +2,11 @@
 use mathlib.Core.Path.{sym, ap, ◌∙◌}
 use Prim.Native.Nat.{ℕ, ◌+◌, ◌<◌}
 use native.Mathlib.Omega.{arith}
-use borrow.Author.Rules.{rules}
 use Rattle.model.specs.declared.Found.{Found}
 use Rattle.model.specs.Calls.{length_of}
 use Rattle.model.proofs.Calls.{skip_beyond, skip-done}
-use Rattle.calls.specs.Does.{Ready}
 use Rattle.calls.proofs.Reading.{root_has, root_got}
 use Rattle.views.proofs.skip.Goals as goal
-use Rattle.views.proofs.skip.Goals.{Else-n-position-2}
-
-below : (c : Else-n-position-2) (s : Ready c.args.pool.now c.args.known)
-    → c.args.position + c.args.m < length_of s.bag
-below c s = omega (arith, c.len-n.ensures s)
 
 pub returns-then-n-position : goal.returns-then-n-position
 returns-then-n-position c s =
@@ -27,19 +20,19 @@ returns-then-n-position-2 c s =
 
 pub overflow_add-i : goal.overflow_add-i
 overflow_add-i c =
-    omega (arith, below c c.requires)
+    omega (arith, c.len-n.ensures c.requires)
 
 pub look_up-f-requires : goal.look_up-f-requires
 look_up-f-requires c =
-    root_has c.requires _ (below c c.requires)
+    root_has c.requires _ (omega (arith, c.len-n.ensures c.requires))
 
 pub overflow_add-result : goal.overflow_add-result
 overflow_add-result c =
-    omega (arith, below c.before c.requires)
+    omega (arith, c.len-n.ensures c.requires)
 
 pub returns : goal.returns
 returns c s =
-    let i = below c.before s in
     let b = c.args in
-    ap (λ (f : Found). record { number = 0; element = f.element; position = b.position + b.m + 1 }) (root_got s _ i _ c.look_up-f.ensures)
+    let l : b.position + b.m < length_of s.bag = omega (arith, c.len-n.ensures s) in
+    ap (λ (f : Found). record { number = 0; element = f.element; position = b.position + b.m + 1 }) (root_got s _ l _ c.look_up-f.ensures)
     ∙ sym (skip-done s.bag _ _ (omega arith))
