@@ -17,7 +17,6 @@ use Rattle.pool.proofs.Whole.{parts_words, lawful_empty}
 use Rattle.pool.proofs.Sized.{Fitting, fits_true}
 use Rattle.chain.proofs.format.Goals as goal
 use Rattle.chain.proofs.format.Invariants.{Freed}
-use Rattle.chain.proofs.format.Goals.{Start}
 
 none : (w : List ℕ) → Fitting (length w) → Freed (set (set w root_word 0) chain_word 0) (nodes_in (length w)) (nodes_in (length w))
 unfolding from
@@ -52,24 +51,9 @@ all w p k l z F =
     let n : p - k ≡ p = omega arith in
     parts_words (lawful_empty p l) (record { sized = F.long; top = F.top; tree = tt; chain = rw (n, m) at F.chain })
 
-sized : (c : Start) → Fitting (length c.args.pool.now)
-sized c = fits_true (length c.args.pool.now) c.requires
-
-pub bounds-pool-0 : goal.bounds-pool-0
-bounds-pool-0 c =
-    omega (arith, sized c.before)
-
-pub bounds-pool-1 : goal.bounds-pool-1
-bounds-pool-1 c =
-    simp length-set (omega (arith, sized c.before))
-
-pub overflow_sub-k : goal.overflow_sub-k
-overflow_sub-k c =
-    simp length-set (omega (arith, sized c.before))
-
 pub loop-k-init : goal.loop-k-init
 loop-k-init c =
-    simp length-set (none c.args.pool.now (sized c.before))
+    simp length-set (none c.args.pool.now (fits_true _ c.requires))
 
 pub give_node-requires : goal.give_node-requires
 give_node-requires c =
@@ -81,9 +65,19 @@ loop-k-preserved c =
 
 pub shape_of-pool : goal.shape_of-pool
 shape_of-pool c =
-    omega (arith, sized c.before.before.before, simp length-set at c.loop-k.invariant.long)
+    omega (arith, fits_true _ c.requires, simp length-set at c.loop-k.invariant.long)
 
 pub returns : goal.returns
 returns c =
     simp length-set at
-    (all _ _ _ (simp length-set (sized c.before.before.before).few) (omega arith) c.loop-k.invariant)
+    (all _ _ _ (simp length-set (fits_true _ c.requires).few) (omega arith) c.loop-k.invariant)
+
+pub bounds-pool-0 : goal.bounds-pool-0
+bounds-pool-0 c = omega (arith, fits_true _ c.requires)
+
+pub bounds-pool-1 : goal.bounds-pool-1
+bounds-pool-1 c = omega (arith, length-set {A = ℕ}, fits_true _ c.requires)
+
+pub overflow_sub-k : goal.overflow_sub-k
+overflow_sub-k c =
+    simp length-set (omega (arith, fits_true _ c.requires))

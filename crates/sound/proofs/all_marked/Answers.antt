@@ -21,7 +21,7 @@ returns-then-marks-i c =
       good = λ t. absurd (false≢true t);
       bad = λ f all. c.if-marks-i.true (omega (
         arith,
-        c.shared_slice_known-1.given i,
+        c.type_inv.marks i,
         set_ones _ 64 (λ j l. sym (seen_at _ i j l) ∙ all (i * 64 + 1 + j) (omega arith) (omega arith)),
       ));
     }
