@@ -1,5 +1,5 @@
 /*
- * A list of 64-bit sample numbers, kept in a pool of words that the caller lends. Link target/staticlib/libbag.a, for x86-64, which
+ * A list of 64-bit sample numbers, kept in a pool of words that the caller lends. Link crates/bag/out/libbag.a, for x86-64, which
  * needs nothing but the memory functions of the C library.
  *
  * A pool of p nodes has BAG_WORDS(p) words, p from 0 to BAG_MOST_NODES. Whatever its words are, bag_format makes it an empty list.

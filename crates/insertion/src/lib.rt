@@ -3,7 +3,7 @@
 
 ghost use Rattle.std.specs.Prelude.{◌≡◌, ◌+◌, leb, ltb, length};
 ghost use Rattle.lists.specs.Lists.{insert_at};
-ghost use Rattle.model.specs.Insert.{needed_below, needed as neededFor};
+ghost use Rattle.model.specs.Insert.{needed_below, needed as needed_for};
 ghost use Rattle.pool.specs.Layout.{node_block, with_block};
 ghost use Rattle.tree.specs.Node.{Node};
 ghost use Rattle.tree.specs.Lookup.{Above, Turns};
@@ -154,7 +154,7 @@ fn needed_below(pool: &[u64], id: usize, levels: usize, index: usize) -> usize
 // How many nodes an insertion at the index takes.
 fn needed(pool: &[u64], known: Known, index: usize) -> usize
     requires { BagReady pool.now known index }
-    ensures { (b : BagReady pool.now known index) → result ≡ neededFor b.bag.root index }
+    ensures { (b : BagReady pool.now known index) → result ≡ needed_for b.bag.root index }
 {
     if known.root == 0 {
         return 1;
@@ -170,7 +170,7 @@ fn needed(pool: &[u64], known: Known, index: usize) -> usize
 // where so many are free, nothing is searched.
 fn lacks_room(pool: &[u64], known: Known, index: usize) -> bool
     requires { BagReady pool.now known index }
-    ensures { (b : BagReady pool.now known index) → result ≡ ltb known.free (neededFor b.bag.root index) }
+    ensures { (b : BagReady pool.now known index) → result ≡ ltb known.free (needed_for b.bag.root index) }
 {
     if known.levels + 2 <= known.free {
         return false;

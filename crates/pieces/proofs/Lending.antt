@@ -68,7 +68,7 @@ module _ {w : List ℕ} {id c : ℕ} {from to : End} (s : Lends w id c from to)
         (omega (arith, a.few_kids)))
 
     pub lend_swap : HasElement w₁ id c
-    lend_swap = record { node = node_untouched one.untouched (one_other id from.node (λ q. s.from-below (sym q))) e; below = s.parent.below }
+    lend_swap = record { node = node_untouched one.untouched (one_other id from.node (λ q. s.from_below (sym q))) e; below = s.parent.below }
 
     module _ (x : ℕ) (w₂ : List ℕ) (swapped : (q : HasElement w₁ id c) → Swapped w₁ w₂ id c p.elem q.node x) where
       abbrev Y : List ℕ
@@ -112,7 +112,7 @@ module _ {w : List ℕ} {id c : ℕ} {from to : End} (s : Lends w id c from to)
           (omega (arith, s.room, s.taker.seats))) in
           record {
             lender = rw (← is) (stored_untouched three.untouched (one_other from.node to.node s.apart)
-                (stored_untouched two.untouched (one_other from.node id s.from-below) one.stored));
+                (stored_untouched two.untouched (one_other from.node id s.from_below) one.stored));
             parent = rw (← T.elem) (stored_untouched three.untouched (one_other id to.node (λ q. s.to_below (sym q))) two.stored);
             taker = rw (← is, ← T.kid, ← (swapped lend_swap).given) three.stored;
             untouched = untouched_both both three.untouched;

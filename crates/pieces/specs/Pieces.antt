@@ -63,7 +63,7 @@ pub record Lends (w : List ℕ) (id c : ℕ) (from to : End) : Type 0 where
   pub parent : HasElement w id c
   pub lender : HasSlot w from.node from.kid
   pub taker : Seated w to.node
-  pub from-below : from.node ≢ id
+  pub from_below : from.node ≢ id
   pub to_below : to.node ≢ id
   pub apart : from.node ≢ to.node
   pub elem : from.elem < length lender.seated.node.elems

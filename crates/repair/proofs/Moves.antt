@@ -155,7 +155,7 @@ lends_of {h = h} {x = x} {y = y} T X Y place u v n few i p a b li lp less la lb 
   parent = record { node = (seated T).node; below = place };
   lender = record { seated = seated X; place = lp; inside = slot_inside h x X.at X.fit p lp };
   taker = seated Y;
-  from-below = u;
+  from_below = u;
   to_below = v;
   apart = n;
   elem = li;
