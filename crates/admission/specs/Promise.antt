@@ -1,15 +1,17 @@
 -- The one promise that every door call makes, for every list of words, and what it says of each kind of call.
-use Rattle.std.specs.Prelude.{◌≡◌, List, ℕ, ◌+◌, ◌*◌, length}
+use Rattle.std.specs.Prelude.{◌≡◌, List, Result, Ok, Err, ℕ, ◌+◌, ◌*◌, length}
 use Rattle.model.specs.declared.Answer.{Answer}
+use Rattle.model.specs.declared.Refusal.{Refusal}
+use Rattle.model.specs.declared.Refusal.TheVariants.{Misfit, Unsound}
 use Rattle.model.specs.Tree.{Bag, empty}
 use Rattle.model.specs.Calls.{refused, gives, Outcome, equal_call}
 use Rattle.words.specs.Words.{run}
 use Rattle.pool.specs.Layout.{words}
 use Rattle.pool.specs.Sound.{Holds, Sound, Sized, nodes_in}
+use Rattle.tree.specs.declared.Known.{Known}
 use Rattle.tree.specs.Stands.{known_of}
 use Rattle.views.specs.declared.Span.{Span}
 use Rattle.views.specs.Part.{nowhere, part_call}
-use Rattle.admission.specs.declared.Admitted.{Admitted}
 
 -- what holds of the result if the length does not fit (4), if the pool is not sound (1), and if it holds the bag b
 pub record Promise (w : List ℕ) (Four One : Type 0) (Held : Bag → Type 0) : Type 0 where
@@ -26,12 +28,9 @@ Edits call w r w' =
 abbrev pub Tells : {A : Type 0} → (ℕ → A) → (Bag → A) → List ℕ → A → Type 0
 Tells refuse ask w r = Promise w (r ≡ refuse 4) (r ≡ refuse 1) (λ b. r ≡ ask b)
 
--- a pool that is admitted: the refusal and nothing known, or what is known of the bag
-abbrev pub unknown : ℕ → Admitted
-unknown n = record { number = n; known = record { root = 0; levels = 0; free = 0 } }
-
-abbrev pub admitted : Bag → Admitted
-admitted b = record { number = 0; known = known_of b }
+-- a pool that is admitted gives what is known of its bag
+abbrev pub Admits : List ℕ → Result Known Refusal → Type 0
+Admits w r = Promise w (r ≡ Err Misfit) (r ≡ Err Unsound) (λ b. r ≡ Ok (known_of b))
 
 -- equality: the first pool is tried, then the second
 abbrev pub Compares : List ℕ → List ℕ → Answer → Type 0

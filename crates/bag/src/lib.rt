@@ -1,4 +1,4 @@
-// The door's calls under the names that C and Rust link. A lent slice passes as a pointer and its number of words.
+// The door's calls under the names that C and Rust link: one export a call. A lent slice passes as a pointer and its number of words.
 #![tactic(auto)]
 
 ghost use Rattle.model.specs.Calls.{refused, check_call, len_call, get_call, skip_call, stays, insert_call, push_call, replace_call, remove_call};
@@ -14,56 +14,56 @@ use views::Span;
 pub extern "C" fn bag_format(pool: &mut [u64]) -> Answer
     ensures { Formats pool.old result pool.new }
 {
-    door::format(pool)
+    door::format(pool).into()
 }
 
 #[unsafe(no_mangle)]
 pub extern "C" fn bag_check(pool: &[u64]) -> Answer
     ensures { Tells refused check_call pool.now result }
 {
-    door::check(pool)
+    door::check(pool).into()
 }
 
 #[unsafe(no_mangle)]
 pub extern "C" fn bag_len(pool: &[u64]) -> Answer
     ensures { Tells refused len_call pool.now result }
 {
-    door::len(pool)
+    door::len(pool).into()
 }
 
 #[unsafe(no_mangle)]
 pub extern "C" fn bag_insert(pool: &mut [u64], index: u64, element: u64) -> Answer
     ensures { Edits (insert_call index element) pool.old result pool.new }
 {
-    door::insert(pool, index, element)
+    door::insert(pool, index, element).into()
 }
 
 #[unsafe(no_mangle)]
 pub extern "C" fn bag_push(pool: &mut [u64], element: u64) -> Answer
     ensures { Edits (push_call element) pool.old result pool.new }
 {
-    door::push(pool, element)
+    door::push(pool, element).into()
 }
 
 #[unsafe(no_mangle)]
 pub extern "C" fn bag_get(pool: &[u64], index: u64) -> Answer
     ensures { Tells refused (get_call index) pool.now result }
 {
-    door::get(pool, index)
+    door::get(pool, index).into()
 }
 
 #[unsafe(no_mangle)]
 pub extern "C" fn bag_replace(pool: &mut [u64], index: u64, element: u64) -> Answer
     ensures { Edits (replace_call index element) pool.old result pool.new }
 {
-    door::replace(pool, index, element)
+    door::replace(pool, index, element).into()
 }
 
 #[unsafe(no_mangle)]
 pub extern "C" fn bag_remove(pool: &mut [u64], index: u64) -> Answer
     ensures { Edits (remove_call index) pool.old result pool.new }
 {
-    door::remove(pool, index)
+    door::remove(pool, index).into()
 }
 
 #[unsafe(no_mangle)]
@@ -84,7 +84,7 @@ pub extern "C" fn bag_skip(pool: &[u64], position: u64, m: u64) -> Walked
 pub extern "C" fn bag_equal(a: &[u64], b: &[u64]) -> Answer
     ensures { Compares a.now b.now result }
 {
-    door::equal(a, b)
+    door::equal(a, b).into()
 }
 
 // The window by numbers: its first word in the pool, and how many.

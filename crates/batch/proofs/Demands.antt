@@ -49,7 +49,9 @@ module _ {w : List ℕ} (input : List ℕ) {out : List ℕ} {r : Ran} {w' out' :
 
   -- why it stopped where it did, and the numbers that it can stop with
   pub batch_stopped : Sound w → Stopped input r.read (length out - r.written) r.number
-  batch_stopped S = stopped input r.read (length out - r.written) (one_by_one B S).stop
+  batch_stopped S =
+      let O = one_by_one B S in
+      rw O.number (stopped input r.read (length out - r.written) O.stop)
 
   pub batch_numbers : OneOf (4 ∷ 1 ∷ 0 ∷ 5 ∷ 6 ∷ 7 ∷ []) r.number
   batch_numbers =

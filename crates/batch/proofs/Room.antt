@@ -6,6 +6,7 @@ use mathlib.Core.Bool.{Bool, true, false, cond}
 use Prim.Native.Nat.{ℕ, zero, suc, ◌+◌, ◌-◌, ◌*◌, ◌≤◌}
 use native.Mathlib.Omega.{arith}
 use lib.Dec.{eqb}
+use Rattle.std.specs.Prelude.{Result, Ok, Err}
 use lib.ListN.{length, length-append}
 use Rattle.model.specs.declared.Answer.{Answer}
 use Rattle.model.specs.Tree.{Bag}
@@ -17,7 +18,7 @@ use Rattle.records.specs.Answers.{record_bytes}
 use Rattle.records.proofs.Laws.{Bodied, Fits, next_fits, record_length}
 use Rattle.commands.specs.declared.Ran.{Ran}
 use Rattle.commands.specs.declared.Turn.{Turn}
-use Rattle.commands.specs.declared.Turn.TheVariants.{Stop, Run}
+use Rattle.commands.specs.declared.Stop.{Stop}
 use Rattle.commands.specs.Steps.{turn_at, Progress, Ended, start, advanced, batch_from, batch_of}
 use Rattle.commands.specs.OnBag.{perform, given, reply_to, on_bag}
 use Rattle.commands.proofs.Turns.{Runnable, runnable, Open, stays_open, batch_stops, batch_goes}
@@ -59,15 +60,15 @@ module _ (input : List ℕ) (size : ℕ) (wide : 9 * length input + 4 ≤ size) 
       room : ℕ
       room = size - length p.answers
 
-      go : (t : Turn) → turn_at input p.read room ≡ t → Runnable input p.read room t → Open input p.read room t
+      go : (t : Result Turn Stop) → turn_at input p.read room ≡ t → Runnable input p.read room t → Open input p.read room t
           → Never7 (batch_from on_bag input size (suc left) p)
-      go (Stop n) e f o = rw (batch_stops on_bag input size p (suc left) enough n e) (o, l)
-      go (Run c n) e f o =
+      go (Err z) e f o = rw (batch_stops on_bag input size p (suc left) enough z e) (o, l)
+      go (Ok t) e f o =
           let d : suc left - 1 ≡ left = omega arith in
-          let a = (on_bag c p.state).answer in
-          let small = reply-small c (perform c p.state).answer n f.0 (subst (Fits input p.read) f.3 (next_fits input p.read)).2 in
-          rw (batch_goes on_bag input size p (suc left) enough c n e, d)
-          (ih (advanced on_bag c n p) (omega (arith, f.0))
+          let a = (on_bag t.command p.state).answer in
+          let small = reply-small t.command (perform t.command p.state).answer t.bytes f.0 (subst (Fits input p.read) f.3 (next_fits input p.read)).2 in
+          rw (batch_goes on_bag input size p (suc left) enough t e, d)
+          (ih (advanced on_bag t.command t.bytes p) (omega (arith, f.0))
           (omega (arith, length-append p.answers (record_bytes a), small, l.0), f.1))
 
   never7 : (left : ℕ) (p : Progress Bag) → length input ≤ p.read + left → Light input p → Never7 (batch_from on_bag input size left p)

@@ -1,5 +1,5 @@
 -- The same commands one at a time, each by the door's own call.
-use Rattle.std.specs.Prelude.{◌≡◌, List, [], ◌∷◌, ◌++◌, ℕ, ◌+◌, ◌-◌, length}
+use Rattle.std.specs.Prelude.{◌≡◌, Ok, Err, List, [], ◌∷◌, ◌++◌, ℕ, ◌+◌, ◌-◌, length}
 use Rattle.std.proofs.lemmas.List.Edits.{sets}
 use Rattle.model.specs.declared.Answer.{Answer}
 use Rattle.model.specs.Calls.{refused, len_call, get_call, insert_call, push_call, replace_call, remove_call}
@@ -8,8 +8,8 @@ use Rattle.records.specs.declared.Command.{Command}
 use Rattle.records.specs.declared.Command.TheVariants.{Insert, Remove, Push, Get, Replace, Len}
 use Rattle.records.specs.Answers.{record_bytes}
 use Rattle.commands.specs.declared.Ran.{Ran}
-use Rattle.commands.specs.declared.Turn.TheVariants.{Stop, Run}
-use Rattle.commands.specs.Steps.{turn_at}
+use Rattle.commands.specs.declared.Stop.{Stop}
+use Rattle.commands.specs.Steps.{stop_number, turn_at}
 use Rattle.commands.specs.OnBag.{reply_to}
 
 -- the promise of the door's call that a command is
@@ -31,7 +31,7 @@ pub record Stage : Type 0 where
 pub data Singly (input : List ℕ) (size : ℕ) : Stage → List Command → Stage → Type 0 where
   none : (s : Stage) → Singly input size s [] s
   next : (s : Stage) (c : Command) (n : ℕ) (a : Answer) (v : List ℕ) (cs : List Command) (e : Stage)
-      → turn_at input s.at (size - length s.bytes) ≡ Run c n → Called c s.pool a v
+      → turn_at input s.at (size - length s.bytes) ≡ Ok (record { command = c; bytes = n }) → Called c s.pool a v
       → Singly input size (record { at = s.at + n; bytes = s.bytes ++ record_bytes (reply_to c a); pool = v }) cs e
       → Singly input size s (c ∷ cs) e
 
@@ -43,4 +43,6 @@ pub record OneByOne (w input out : List ℕ) (r : Ran) (w' out' : List ℕ) : Ty
   pub counted : r.commands ≡ length commands
   pub written : r.written ≡ length bytes
   pub output : out' ≡ sets out 0 bytes
-  pub stop : turn_at input r.read (length out - r.written) ≡ Stop r.number
+  pub why : Stop
+  pub stop : turn_at input r.read (length out - r.written) ≡ Err why
+  pub number : r.number ≡ stop_number why

@@ -9,14 +9,13 @@ use commands::Ran;
 pub fn batch(pool: &mut [u64], input: &[u8], output: &mut [u8]) -> Ran
     ensures { Batches pool.old input.now output.old result pool.new output.new }
 {
-    let o = admission::admit(pool);
-    if o.number != 0 {
-        return Ran {
-            number: o.number,
+    match admission::admit(pool) {
+        Ok(known) => commands::run(pool, known, input, output),
+        Err(why) => Ran {
+            number: why.number(),
             commands: 0,
             read: 0,
             written: 0,
-        };
+        },
     }
-    commands::run(pool, o.known, input, output)
 }

@@ -1,11 +1,11 @@
 -- What an edit does to the bag that a pool holds, from what the tree functions leave.
 use mathlib.Core.Path.{◌≡◌, refl, sym, ap, subst, ◌∙◌}
-use mathlib.Core.Bool.{true, false}
 use mathlib.Core.List.{List}
 use Prim.Native.Nat.{ℕ, ◌≤◌, ◌<◌}
 use native.Mathlib.Omega.{arith}
 use native.Mathlib.Decide.{dec_lt}
 use lib.ListN.{length, get_or, set}
+use Rattle.std.specs.Prelude.{Option, Some, None}
 use Rattle.model.specs.declared.Answer.{Answer}
 use Rattle.model.specs.Tree.{Tree, replace, Root, Bag, root_ids, bag_get, bag_replace, levels_of}
 use Rattle.model.specs.Calls.{refused, gives, length_of, Outcome, outcome, insert_call, replace_call, remove_call}
@@ -24,19 +24,17 @@ use Rattle.pool.proofs.Frame.{chain_inside, chain_frame}
 use Rattle.tree.specs.declared.Known.{Known}
 use Rattle.tree.specs.Stands.{known_of}
 use Rattle.tree.specs.Lookup.{Has, Replaced}
-use Rattle.insertion.specs.declared.Placed.{Placed}
 use Rattle.insertion.specs.Ready.{BagReady, Inserts}
 use Rattle.removal.specs.declared.Taken.{Taken}
 use Rattle.removal.specs.Ready.{BagHas, BagRemoves}
-use Rattle.calls.specs.declared.Done.{Done}
 use Rattle.calls.specs.Does.{Ready, Does}
 use Rattle.calls.proofs.Bags.{holds_stands, lawful_edited, became_holds}
 use Rattle.calls.proofs.Reading.{root_of, root_has}
 
 -- what a call is on a bag, and a pool that holds what it leaves
-pub does : {w' : List ℕ} (call : Bag → Outcome) (b : Bag) (o : Outcome) → call b ≡ o → (r : Done) → r.answer ≡ o.answer
-    → r.known ≡ known_of o.bag → Holds w' o.bag → Does call b r w'
-does {w'} call b o e r p q H = record {
+pub does : {w' : List ℕ} (call : Bag → Outcome) (b : Bag) (o : Outcome) → call b ≡ o → (a : Answer) (k : Known) → a ≡ o.answer
+    → k ≡ known_of o.bag → Holds w' o.bag → Does call b a k w'
+does {w'} call b o e a k p q H = record {
   answer = p ∙ sym (ap (λ (u : Outcome). u.answer) e);
   holds = subst (λ (u : Outcome). Holds w' u.bag) (sym e) H;
   known = q ∙ sym (ap (λ (u : Outcome). known_of u.bag) e);
@@ -72,8 +70,8 @@ module _ {w w' : List ℕ} {k : Known} (s : Ready w k) (i x old : ℕ) (l : i < 
         chain = q.chain;
       })
 
-  pub replace_does : (a : Answer) → a ≡ gives old → Does (replace_call i x) s.bag (record { answer = a; known = k }) w'
-  replace_does a e =
+  pub replace_does : Does (replace_call i x) s.bag (gives old) k w'
+  replace_does =
       let b : Bag = s.bag in
       let P = holds_parts s.holds in
       let L = left in
@@ -89,17 +87,17 @@ module _ {w w' : List ℕ} {k : Known} (s : Ready w k) (i x old : ℕ) (l : i < 
             L.chain P.chain);
       }) in
       does (replace_call i x) b (outcome (gives (bag_get b i).element) (bag_replace b i x)) (replace-done b i x l)
-      (record { answer = a; known = k }) (e ∙ ap gives L.given) (s.is ∙ sym L.known) H
+      _ k (ap gives L.given) (s.is ∙ sym L.known) H
 
 -- ---- insertion
 
 abbrev pub insert_ready : {w : List ℕ} {k : Known} {i : ℕ} (s : Ready w k) → i ≤ length_of s.bag → BagReady w k i
 insert_ready s l = record { bag = s.bag; stands = holds_stands s.holds; is = s.is; upto = l }
 
-module _ {w w' : List ℕ} {k : Known} (s : Ready w k) (i x : ℕ) (l : i ≤ length_of s.bag) (r : Placed)
-    (I : (q : BagReady w k i) → Inserts w w' q.bag i x k r) where
-  done : Inserts w w' s.bag i x k r
-  done = I (insert_ready s l)
+module _ {w w' : List ℕ} {k : Known} (s : Ready w k) (i x : ℕ) (l : i ≤ length_of s.bag) (r : Option Known)
+    (I : (q : BagReady w k i) → Inserts w w' q.bag i x r) where
+  inserts : Inserts w w' s.bag i x r
+  inserts = I (insert_ready s l)
 
   abbrev need : ℕ
   need = needed s.bag.root i
@@ -107,30 +105,30 @@ module _ {w w' : List ℕ} {k : Known} (s : Ready w k) (i x : ℕ) (l : i ≤ le
   pub insert_long : length w' ≡ length w
   insert_long =
       elim (dec_lt (length s.bag.free) need) [
-        | yes n ↦ ap length (done.refused n).2
-        | no n ↦ (done.accepted (omega arith)).1.untouched.long
+        | yes n ↦ ap length (inserts.refused n).1
+        | no n ↦ (inserts.accepted (omega arith)).1.untouched.long
       ]
 
   -- refused for room: the pool is as it was
-  pub insert-refused : r.done ≡ false → (a : Answer) → a ≡ refused 3 → Does (insert_call i x) s.bag (record { answer = a; known = k }) w'
-  insert-refused e a q =
+  pub insert-refused : r ≡ None → Does (insert_call i x) s.bag (refused 3) k w'
+  insert-refused e =
       elim (dec_lt (length s.bag.free) need) [
-        | yes n ↦ does (insert_call i x) s.bag (outcome (refused 3) s.bag) (insert_full s.bag i x l n) (record { answer = a; known = k }) q s.is
-            (rw (done.refused n).2 s.holds)
-        | no n ↦ (let d = (done.accepted (omega arith)).0 in let z : ◌≡◌ {A = ℕ} 0 1 = cc in absurd (omega arith))
+        | yes n ↦ does (insert_call i x) s.bag (outcome (refused 3) s.bag) (insert_full s.bag i x l n) _ k refl s.is
+            (rw (inserts.refused n).1 s.holds)
+        | no n ↦ (let d = (inserts.accepted (omega arith)).0 in cc)
       ]
 
   -- done: the new root is stored
-  pub insert_does : r.done ≡ true → (a : Answer) → a ≡ gives 0
-      → Does (insert_call i x) s.bag (record { answer = a; known = r.known }) (set w' root_word r.known.root)
-  insert_does e a q =
+  pub insert_does : (d : Known) → r ≡ Some d → Does (insert_call i x) s.bag (gives 0) d (set w' root_word d.root)
+  insert_does d e =
       elim (dec_lt (length s.bag.free) need) [
-        | yes n ↦ (let d = (done.refused n).0 in let z : ◌≡◌ {A = ℕ} 0 1 = cc in absurd (omega arith))
+        | yes n ↦ (let z = (inserts.refused n).0 in cc)
         | no n ↦
-            (let B = (done.accepted (omega arith)).1 in
+            (let A = inserts.accepted (omega arith) in
             let E = (bag_insert_lem s.bag i x s.holds.lawful.fit l (omega arith)).edited in
+            let k : d ≡ known_of (bag_insert s.bag i x) = cc in
             does (insert_call i x) s.bag (outcome (gives 0) (bag_insert s.bag i x)) (insert-done s.bag i x l (omega arith))
-            (record { answer = a; known = r.known }) q B.known (rw (ap (λ (k : Known). k.root) B.known) (became_holds s.holds E B)))
+            _ d refl k (rw (ap (λ (k : Known). k.root) k) (became_holds s.holds E A.1)))
       ]
 
 -- ---- removal
@@ -140,12 +138,11 @@ remove_ready s l = record { bag = s.bag; stands = holds_stands s.holds; is = s.i
 
 module _ {w w' : List ℕ} {k : Known} (s : Ready w k) (i : ℕ) (l : i < length_of s.bag) (r : Taken)
     (R : (q : BagHas w k i) → BagRemoves w w' q.bag i r) where
-  pub remove_does : (a : Answer) → a ≡ gives r.old
-      → Does (remove_call i) s.bag (record { answer = a; known = r.known }) (set w' root_word r.known.root)
-  remove_does a q =
+  pub remove_does : Does (remove_call i) s.bag (gives r.old) r.known (set w' root_word r.known.root)
+  remove_does =
       let D = R (remove_ready s l) in
       let E = (bag_remove_lem s.bag i s.holds.lawful.fit l).edited in
       let B = D.became in
       does (remove_call i) s.bag (outcome (gives (bag_remove s.bag i).old) (bag_remove s.bag i).bag) (remove-done s.bag i l)
-      (record { answer = a; known = r.known }) (q ∙ ap gives D.old) B.known
+      _ r.known (ap gives D.old) B.known
       (rw (ap (λ (k : Known). k.root) B.known) (became_holds s.holds E B))

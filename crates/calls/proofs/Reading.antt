@@ -1,12 +1,18 @@
 -- What is read of the bag that a pool holds, from what is known of it.
-use mathlib.Core.Path.{◌≡◌, sym, ap, subst, ◌∙◌}
+use mathlib.Core.Path.{◌≡◌, refl, sym, ap, subst, ◌∙◌}
 use mathlib.Core.List.{List}
 use mathlib.Core.Logic.{◌≢◌}
-use Prim.Native.Nat.{ℕ, ◌<◌}
+use Prim.Native.Nat.{ℕ, ◌≤◌, ◌<◌}
+use borrow.Author.Tests.{leb-true, leb-false}
+use mathlib.Core.Bool.{Bool, true, false, cond}
+use lib.Dec.{leb}
+use Rattle.std.specs.Prelude.{Result, Ok, Err}
+use Rattle.model.specs.declared.Refusal.{Refusal}
+use Rattle.model.specs.declared.Refusal.TheVariants.{PastTheEnd}
 use native.Mathlib.Omega.{arith}
 use lib.ListN.{length}
 use Rattle.model.specs.declared.Found.{Found}
-use Rattle.model.specs.Tree.{get, Root, list_of, bag_get}
+use Rattle.model.specs.Tree.{get, Root, Bag, list_of, bag_get}
 use Rattle.model.specs.Calls.{length_of}
 use Rattle.pool.specs.Parts.{Inside, length_at}
 use Rattle.pool.proofs.Node.{at_length}
@@ -15,7 +21,7 @@ use Rattle.tree.specs.Stands.{BagStands}
 use Rattle.tree.specs.Lookup.{Has}
 use Rattle.tree.proofs.Edits.{owns_stands}
 use Rattle.tree.proofs.Rooting.{Rooted, is_rooted, is_bare, not_bare}
-use Rattle.calls.specs.Does.{Ready}
+use Rattle.calls.specs.Does.{Ready, place_of}
 use Rattle.calls.proofs.Bags.{holds_stands}
 
 -- ---- the root
@@ -56,3 +62,18 @@ module _ {w : List ℕ} {known : Known} (s : Ready w known) where
     unfolding bag_get
     root_got f G =
         subst (λ (r : Root). f ≡ bag_get (record { root = r; free = s.bag.free }) i) (sym root_of.is) (G root_has)
+
+-- ---- the place of an element
+
+module _ (b : Bag) (i : ℕ) where
+  -- a place is that of an element, and its refusal is that there is none
+  abbrev Tells : Result ℕ Refusal → Type 0
+  Tells (Ok j) = (j ≡ i) × (i < length_of b)
+  Tells (Err why) = (why ≡ PastTheEnd) × (length_of b ≤ i)
+
+  pub place_tells : {r : Result ℕ Refusal} → r ≡ place_of i b → Tells r
+  place_tells e = subst Tells (sym e) (go (leb (length_of b) i) refl)
+    where
+      go : (t : Bool) → leb (length_of b) i ≡ t → Tells (cond t (Err PastTheEnd) (Ok i))
+      go true q = (refl, leb-true (length_of b) i q)
+      go false q = (refl, leb-false (length_of b) i q)

@@ -53,9 +53,6 @@ module _ (w : List ℕ) (k : ℕ) (b : List ℕ) (v : ℕ) (I : Inside w k) (e :
 
 -- ---- taken
 
-pub free_inside : (w f : List ℕ) → Free w f → Inside w (get_or w chain_word 0)
-free_inside w f F = rw F.chain.first (F.chain.links 0 F.some).inside
-
 pub took : (w f : List ℕ) (a : ℕ) → a ≡ start (get_or w chain_word 0) → Free w f
     → Took w f (get_or w chain_word 0) (set (set w chain_word (get_or w (a + 65) 0)) (a + 65) 0)
 unfolding free_block

@@ -12,6 +12,7 @@ ghost use Rattle.chain.specs.Chain.{Free, Took, Gave};
 use pool::{CHAIN_WORD, HEAD_WORDS, LINK, NODE_WORDS, ROOT_WORD, start_of};
 
 // Takes the first free node out of the chain: the one that was freed last.
+#[tactic(auto, using(crate::proofs::Chain::took))]
 pub fn take_node(pool: &mut [u64]) -> usize
     requires { (f : List ℕ) × Free pool.old f }
     ensures { (f : List ℕ) → Free pool.old f → Took pool.old f result pool.new }
@@ -42,9 +43,8 @@ pub fn format(pool: &mut [u64])
 {
     pool[ROOT_WORD] = 0;
     pool[CHAIN_WORD] = 0;
-    let mut k = (pool.len() - HEAD_WORDS) / NODE_WORDS;
-    while 0 < k {
+    let n = (pool.len() - HEAD_WORDS) / NODE_WORDS;
+    for k in (1..=n).rev() {
         give_node(pool, k);
-        k -= 1;
     }
 }

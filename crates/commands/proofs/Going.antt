@@ -5,6 +5,7 @@ use Prim.Native.Nat.{ℕ, ◌+◌, ◌-◌, ◌≤◌}
 use native.Mathlib.Nat.{zero-add}
 use native.Mathlib.Omega.{arith}
 use lib.ListN.{length, length-append}
+use Rattle.std.specs.Prelude.{Ok, Err}
 use lib.Seq.{sets, length-sets}
 use Rattle.words.proofs.Laws.{sets-append}
 use Rattle.model.specs.Tree.{Bag}
@@ -12,12 +13,12 @@ use Rattle.pool.specs.Sound.{Holds}
 use Rattle.tree.specs.declared.Known.{Known}
 use Rattle.tree.specs.Stands.{known_of}
 use Rattle.calls.specs.Does.{Ready}
-use Rattle.records.specs.declared.Command.{Command}
+use Rattle.records.specs.declared.Record.{Record}
 use Rattle.records.specs.Answers.{record_bytes}
 use Rattle.records.proofs.Laws.{record_length}
-use Rattle.commands.specs.declared.Turn.TheVariants.{Stop, Run}
-use Rattle.commands.specs.declared.Served.{Served}
-use Rattle.commands.specs.Steps.{turn_at, batch_from, batch_of}
+use Rattle.commands.specs.declared.Turn.{Turn}
+use Rattle.commands.specs.declared.Stop.{Stop}
+use Rattle.commands.specs.Steps.{stop_number, turn_at, batch_from, batch_of}
 use Rattle.commands.specs.OnBag.{on_bag, Runs}
 use Rattle.commands.specs.Serving.{Serves}
 use Rattle.commands.proofs.Turns.{Runnable, runnable, batch_stops, batch_goes}
@@ -65,38 +66,38 @@ module _ {b : Bag} {input out w o : List ℕ} {k : Known} {commands read written
   room = rw (same_room, G.place)
 
   -- it stops
-  pub stops : (n : ℕ) → turn_at input read (length o - written) ≡ Stop n
-      → Runs (batch_of on_bag input (length out) b) out (record { number = n; commands = commands; read = read; written = written }) w o
-  stops n e =
-      let f = sym G.same ∙ batch_stops on_bag input (length out) _ G.left G.enough n (rw room at e) in
+  pub stops : (z : Stop) → turn_at input read (length o - written) ≡ Err z
+      → Runs (batch_of on_bag input (length out) b) out (record { number = stop_number z; commands = commands; read = read; written = written }) w o
+  stops z e =
+      let f = sym G.same ∙ batch_stops on_bag input (length out) _ G.left G.enough z (rw room at e) in
       rw f (record {
-        ran = ap (λ (m : ℕ). record { number = n; commands = commands; read = read; written = m }) G.place;
+        ran = ap (λ (m : ℕ). record { number = stop_number z; commands = commands; read = read; written = m }) G.place;
         holds = G.holds;
         output = G.output;
       })
 
   -- or goes on with a command
-  module _ (c : Command) (n : ℕ) (e : turn_at input read (length o - written) ≡ Run c n) where
-    pub can_run : Runnable input read (length o - written) (Run c n)
+  module _ (t : Turn) (e : turn_at input read (length o - written) ≡ Ok t) where
+    pub can_run : Runnable input read (length o - written) (Ok t)
     can_run = subst (Runnable input read (length o - written)) e (runnable input read (length o - written))
 
-    pub goes : {r : Served} {w' o' : List ℕ} {written' : ℕ} → Serves (on_bag c G.bag) r w'
-        → written' ≡ written + length (record_bytes r.answer) → o' ≡ sets o written (record_bytes r.answer)
-        → Going b input out w' o' r.known (commands + 1) (read + n) written'
-    goes {r} {w'} {o'} {written'} S g h =
-        let new = record_bytes r.answer in
-        let a : length (G.answers ++ new) ≡ length G.answers + length new = length-append G.answers new in
+    pub goes : {a : Record} {d : Known} {w' o' : List ℕ} {written' : ℕ} → Serves (on_bag t.command G.bag) a d w'
+        → written' ≡ written + length (record_bytes a) → o' ≡ sets o written (record_bytes a)
+        → Going b input out w' o' d (commands + 1) (read + t.bytes) written'
+    goes {a} {d} {w'} {o'} {written'} S g h =
+        let new = record_bytes a in
+        let long : length (G.answers ++ new) ≡ length G.answers + length new = length-append G.answers new in
         record {
-          bag = (on_bag c G.bag).state;
+          bag = (on_bag t.command G.bag).state;
           answers = G.answers ++ new;
           left = G.left - 1;
           holds = S.holds;
           known = S.known;
           output = h ∙ rw (sets-append out 0 G.answers new, G.output, zero-add, ← G.place);
           place = omega (arith, G.place);
-          fits = omega (arith, record_length r.answer, same_room, can_run.2);
+          fits = omega (arith, record_length a, same_room, can_run.2);
           few = omega (arith, G.few, can_run.0);
           inside = can_run.1;
           enough = omega (arith, G.enough, can_run.0);
-          same = rw S.answer (sym (batch_goes on_bag input (length out) _ G.left G.enough c n (rw room at e)) ∙ G.same);
+          same = rw S.answer (sym (batch_goes on_bag input (length out) _ G.left G.enough t (rw room at e)) ∙ G.same);
         }

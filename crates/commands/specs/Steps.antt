@@ -1,20 +1,28 @@
 -- A batch as its commands one at a time (01, Commands and answers), over whatever keeps the list.
-use Rattle.std.specs.Prelude.{List, [], ◌++◌, cond, ℕ, zero, suc, ◌+◌, ◌-◌, ltb, length}
+use Rattle.std.specs.Prelude.{Result, Ok, Err, List, [], ◌++◌, cond, ℕ, zero, suc, ◌+◌, ◌-◌, ltb, length}
 use Rattle.records.specs.declared.Command.{Command}
 use Rattle.records.specs.declared.Record.{Record}
 use Rattle.records.specs.Commands.{Next, End, UnknownKind, CutShort, Whole, next_at}
 use Rattle.records.specs.Answers.{record_bytes, longest_record}
 use Rattle.commands.specs.declared.Turn.{Turn}
-use Rattle.commands.specs.declared.Turn.TheVariants.{Stop, Run}
+use Rattle.commands.specs.declared.Stop.{Stop}
+use Rattle.commands.specs.declared.Stop.TheVariants.{InputEnded, KindUnknown, CommandCut, OutputFull}
+
+-- 01's number of a stop
+abbrev pub stop_number : Stop → ℕ
+stop_number InputEnded = 0
+stop_number KindUnknown = 5
+stop_number CommandCut = 6
+stop_number OutputFull = 7
 
 -- the stop that applies, tried in 01's order, or the command to run and its length
-abbrev pub turn_of : Next → ℕ → Turn
-turn_of End room = Stop 0
-turn_of UnknownKind room = Stop 5
-turn_of CutShort room = Stop 6
-turn_of (Whole c n) room = cond (ltb room longest_record) (Stop 7) (Run c n)
+abbrev pub turn_of : Next → ℕ → Result Turn Stop
+turn_of End room = Err InputEnded
+turn_of UnknownKind room = Err KindUnknown
+turn_of CutShort room = Err CommandCut
+turn_of (Whole c n) room = cond (ltb room longest_record) (Err OutputFull) (Ok (record { command = c; bytes = n }))
 
-unfoldable pub turn_at : List ℕ → ℕ → ℕ → Turn
+unfoldable pub turn_at : List ℕ → ℕ → ℕ → Result Turn Stop
 unfolding next_at
 turn_at input at room = turn_of (next_at input at) room
 
@@ -55,8 +63,8 @@ unfolding turn_at record_bytes
 batch_from engine input size zero p = record { number = 0; progress = p }
 batch_from engine input size (suc left) p =
     elim (turn_at input p.read (size - length p.answers)) [
-      | Stop n ↦ record { number = n; progress = p }
-      | Run c n ↦ batch_from engine input size left (advanced engine c n p)
+      | Err stop ↦ record { number = stop_number stop; progress = p }
+      | Ok turn ↦ batch_from engine input size left (advanced engine turn.command turn.bytes p)
     ]
 
 abbrev pub batch_of : {S : Type 0} → (Command → S → Reply S) → List ℕ → ℕ → S → Ended S

@@ -1,18 +1,17 @@
 // The commands of a batch, one after the other, on a pool that is known to hold a bag.
 #![tactic(auto)]
 
-ghost use Rattle.std.specs.Prelude.{◌≡◌, cond, eqb, length};
+ghost use Rattle.std.specs.Prelude.{◌≡◌, length};
 ghost use Rattle.calls.specs.Does.{Ready};
-ghost use Rattle.records.specs.declared.Record.TheVariants.{Refusal};
-ghost use Rattle.commands.specs.Steps.{turn_at, batch_of};
+ghost use Rattle.commands.specs.Steps.{stop_number, turn_at, batch_of};
 ghost use Rattle.commands.specs.OnBag.{on_bag, Runs};
-ghost use Rattle.commands.specs.Serving.{Serves};
+ghost use Rattle.commands.specs.Serving.{Serves, record_of};
 
-use calls::Done;
-use records::{Body, Command, LONGEST_RECORD, Record};
+use model::Refusal;
+use records::{Command, LONGEST_RECORD, Record};
 use tree::Known;
 
-// What a batch gives: 01's number, the commands run, and those commands' bytes read and written.
+// What a batch gives, as C has it, where it stops too: 01's number, the commands run, and those commands' bytes read and written.
 #[repr(C)]
 #[derive(Clone, Copy)]
 pub struct Ran {
@@ -22,85 +21,77 @@ pub struct Ran {
     pub written: u64,
 }
 
-// A batch's turn: it stops with a number, or runs a command of so many bytes.
-#[derive(Clone, Copy)]
-pub enum Turn {
-    Stop(u64),
-    Run(Command, usize),
+// Why a batch stops.
+#[derive(Clone, Copy, Debug, PartialEq, Eq)]
+pub enum Stop {
+    InputEnded = 0,
+    KindUnknown = 5,
+    CommandCut = 6,
+    OutputFull = 7,
 }
 
-// What answers a command, and what is known of the bag then.
+impl Stop {
+    // 01's number.
+    pub fn number(self) -> u64
+        ensures { result ≡ stop_number self }
+    {
+        self as u64
+    }
+}
+
+// A batch's turn: a command to run, and its bytes.
 #[derive(Clone, Copy)]
-pub struct Served {
-    pub answer: Record,
-    pub known: Known,
+pub struct Turn {
+    pub command: Command,
+    pub bytes: usize,
 }
 
 // The turn at a place of the input, with so many output bytes left: the stops in 01's order.
-fn turn_at(input: &[u8], at: usize, room: usize) -> Turn
+fn turn_at(input: &[u8], at: usize, room: usize) -> Result<Turn, Stop>
     ensures { result ≡ turn_at input.now at room }
 {
     if input.len() <= at {
-        return Turn::Stop(0);
+        return Err(Stop::InputEnded);
     }
-    let body = records::body_length(input[at]);
-    let Body::Bytes(n) = body else {
-        return Turn::Stop(5);
-    };
+    let n = records::body_length(input[at]).ok_or(Stop::KindUnknown)?;
     if input.len() - at - 1 < n {
-        return Turn::Stop(6);
+        return Err(Stop::CommandCut);
     }
     if room < LONGEST_RECORD {
-        return Turn::Stop(7);
+        return Err(Stop::OutputFull);
     }
-    Turn::Run(records::read_command(input, at), n + 1)
+    Ok(Turn {
+        command: records::read_command(input, at),
+        bytes: n + 1,
+    })
 }
 
-// The record of what a call answers: a refusal's number, or what a command that was done gives.
-fn reply(d: Done, done: Record) -> Served
-    ensures answer_value { result.answer ≡ cond (eqb d.answer.number 0) done (Refusal d.answer.number) }
-    ensures known_value { result.known ≡ d.known }
-{
-    let known = d.known;
-    if d.answer.number != 0 {
-        return Served {
-            answer: Record::Refusal(d.answer.number),
-            known,
-        };
-    }
-    Served {
-        answer: done,
-        known,
-    }
-}
-
-// One command on a pool that is known to hold a bag.
-fn serve(pool: &mut [u64], known: Known, c: Command) -> Served
-    requires { Ready pool.old known }
-    ensures { (s : Ready pool.old known) → Serves (on_bag c s.bag) result pool.new }
+// One command on a pool that is known to hold a bag: the record that answers it, or why it is refused.
+fn perform(pool: &mut [u64], known: &mut Known, c: Command) -> Result<Record, Refusal>
+    requires { Ready pool.old known.old }
+    ensures { (s : Ready pool.old known.old) → Serves (on_bag c s.bag) (record_of result) known.new pool.new }
 {
     match c {
-        Command::Insert(i, x) => reply(calls::insert(pool, known, i, x), Record::Done),
-        Command::Remove(i) => {
-            let d = calls::remove(pool, known, i);
-            reply(d, Record::Element(d.answer.value))
-        }
-        Command::Push(x) => reply(calls::push(pool, known, x), Record::Done),
-        Command::Get(i) => {
-            let answer = calls::get(pool, known, i);
-            reply(
-                Done { answer, known },
-                Record::Got(answer.value, answer.compared),
-            )
-        }
-        Command::Replace(i, x) => {
-            let d = calls::replace(pool, known, i, x);
-            reply(d, Record::Element(d.answer.value))
-        }
-        Command::Len => Served {
-            answer: Record::Length(calls::len(pool, known)),
-            known,
-        },
+        Command::Insert(i, x) => calls::insert(pool, known, i, x).map(|()| Record::Done),
+        Command::Remove(i) => calls::remove(pool, known, i).map(Record::Element),
+        Command::Push(x) => calls::push(pool, known, x).map(|()| Record::Done),
+        Command::Get(i) => calls::get(pool, *known, i).map(|f| Record::Got(
+            f.element,
+            f.compared as u64,
+        )),
+        Command::Replace(i, x) => calls::replace(pool, *known, i, x).map(Record::Element),
+        Command::Len => Ok(Record::Length(calls::len(pool, *known))),
+    }
+}
+
+// The record of a command, a refused one's with the number.
+fn serve(pool: &mut [u64], known: &mut Known, c: Command) -> Record
+    requires { Ready pool.old known.old }
+    ensures { (s : Ready pool.old known.old) → Serves (on_bag c s.bag) result known.new pool.new }
+{
+    match perform(pool, known, c) {
+        Ok(record) => record,
+        Err(why) => Record::Refusal(why.number()),
     }
 }
 
@@ -116,23 +107,20 @@ pub fn run(pool: &mut [u64], known: Known, input: &[u8], output: &mut [u8]) -> R
     let mut read = 0;
     let mut written = 0;
     loop {
-        let turn = turn_at(input, read, output.len() - written);
-        match turn {
-            Turn::Stop(number) => {
+        match turn_at(input, read, output.len() - written) {
+            Ok(turn) => {
+                let answer = serve(pool, &mut k, turn.command);
+                written = records::write_record(output, written, answer);
+                commands += 1;
+                read += turn.bytes;
+            }
+            Err(stop) => {
                 return Ran {
-                    number,
+                    number: stop.number(),
                     commands,
                     read: read as u64,
                     written: written as u64,
                 };
-            }
-            Turn::Run(c, n) => {
-                let served = serve(pool, k, c);
-                let answer = served.answer;
-                written = records::write_record(output, written, answer);
-                k = served.known;
-                commands += 1;
-                read += n;
             }
         }
     }

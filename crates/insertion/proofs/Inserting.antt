@@ -186,8 +186,8 @@ module _ {w : List ℕ} {id index h : ℕ} (i : InsertReady w (suc h) id index) 
           pub half_inside : Inside w' r.id
           half_inside = subst (Inside w') half_here half.at.here.inside
 
-          pub right_readable : Inside w' id × (r.child + 1 < 32)
-          right_readable = rw (T ready_above).child (kid_readable split_owns split_here H.two)
+          pub right_few : r.child + 1 < 32
+          right_few = rw (T ready_above).child (kid_readable split_owns split_here H.two).1
 
           room_made : (p : Place) (k : ℕ) → find h parted index ≡ p → k ≡ (kid h parted p.child).id
               → MakesRoom w w' h t f index (record { id = k; sub = p.sub; taken = 1 })

@@ -1,4 +1,4 @@
--- Insertion into the whole list: refused, into an empty list, under a root with room, and under a full root.
+-- Insertion into the whole list: into an empty list, under a root with room, and under a full root.
 use mathlib.Core.Path.{◌≡◌, refl, sym, ap, subst, ◌∙◌}
 use mathlib.Core.Bool.{Bool, true, false}
 use mathlib.Core.List.{List, [], ◌∷◌, ◌++◌}
@@ -6,7 +6,8 @@ use mathlib.Core.Logic.{◌≢◌}
 use Prim.Native.Nat.{ℕ, suc, ◌+◌, ◌-◌, ◌≤◌, ◌<◌}
 use native.Mathlib.Numerals.{add-one}
 use native.Mathlib.Omega.{arith}
-use borrow.Author.Tests.{ltb-true, ltb-false}
+use borrow.Author.Tests.{ltb-false}
+use Rattle.std.specs.Prelude.{Some}
 use lib.Dec.{ltb}
 use lib.ListN.{length, get_or, drop, length-drop}
 use Rattle.lists.specs.Lists.{count, insert_at}
@@ -21,7 +22,7 @@ use Rattle.pool.specs.Parts.{Stored, At, ChainAt}
 use Rattle.pool.specs.Frame.{Untouched}
 use Rattle.chain.specs.Chain.{Free, Took}
 use Rattle.pool.proofs.Blocks.{length-node_block}
-use Rattle.pool.proofs.Frame.{chain_untouched, untouched_more, untouched_both, Wrote, wrote, stored_same}
+use Rattle.pool.proofs.Frame.{chain_untouched, untouched_none, untouched_more, untouched_both, Wrote, wrote, stored_same}
 use Rattle.tree.specs.declared.Known.{Known}
 use Rattle.tree.specs.Stands.{Became}
 use Rattle.tree.proofs.Rooting.{Rooted, is_bare}
@@ -55,18 +56,15 @@ leaf-block k x = refl
 
 module _ {w : List ℕ} {known : Known} {index : ℕ} (x : ℕ) (a : Bool)
     (A : (q : BagReady w known index) → a ≡ ltb known.free (needed q.bag.root index)) (b : BagReady w known index) where
-  pub refuses : a ≡ true → Inserts w w b.bag index x known (record { done = false; known = known })
-  refuses e =
-      let l = ltb-true known.free (needed b.bag.root index) (sym (A b) ∙ e) in
-      record { accepted = λ m. absurd (omega (arith, free_count b)); refused = λ m. (refl, refl, refl) }
-
   module _ (e : a ≡ false) where
     pub enough : needed b.bag.root index ≤ length b.bag.free
     enough = omega (arith, ltb-false known.free (needed b.bag.root index) (sym (A b) ∙ e), free_count b)
 
-    accepts : {w' : List ℕ} {k : Known} → Became w w' b.bag (bag_insert b.bag index x) k
-        → Inserts w w' b.bag index x known (record { done = true; known = k })
-    accepts B = record { accepted = λ m. (refl, B); refused = λ m. absurd (omega (arith, enough)) }
+    accepts : {w' : List ℕ} {k : Known} → Became w w' b.bag (bag_insert b.bag index x) k → Inserts w w' b.bag index x (Some k)
+    accepts B = record {
+      accepted = λ m. (ap Some B.known, record { known = refl; tree = B.tree; chain = B.chain; untouched = B.untouched });
+      refused = λ m. absurd (omega (arith, enough));
+    }
 
     left : (m : ℕ) → m + needed b.bag.root index ≡ known.free → m ≡ length (bag_insert b.bag index x).free
     left m s =
@@ -106,8 +104,7 @@ module _ {w : List ℕ} {known : Known} {index : ℕ} (x : ℕ) (a : Bool)
 
         pub bare_inserted : (w₂ : List ℕ) → ((s : HasRoom w₁ root 0)
             → w₂ ≡ with_block w₁ root (node_block (s.node.size + 1) (insert_at s.node.elems 0 x) s.node.kids))
-            → Inserts w w₂ b.bag index x known
-            (record { done = true; known = record { root = root; levels = 0; free = known.free - 1 } })
+            → Inserts w w₂ b.bag index x (Some (record { root = root; levels = 0; free = known.free - 1 }))
         unfolding insert_at root_ids
         bare_inserted w₂ e₂ =
             let W : Wrote w₁ w₂ root (node_block 1 (x ∷ []) []) =
@@ -126,131 +123,141 @@ module _ {w : List ℕ} {known : Known} {index : ℕ} (x : ℕ) (a : Bool)
 
     -- ---- a list with a root
 
-    module _ (ne : known.root ≢ 0) (d : Bool) (D : Told w known.root d) where
-      abbrev R : Rooted w known b.bag
-      R = root_of b ne
+    -- the caller's nodes
+    abbrev all : List ℕ
+    all = root_ids b.bag.root ++ b.bag.free
+
+    -- top is known of the list when its root has room: an insertion below it is one into the list
+    pub record Roomy (w₁ : List ℕ) (top : Known) : Type 0 where
+      pub ready : InsertReady w₁ top.levels top.root index
+      pub frees : top.free ≡ length ready.free
+      pub spent : needed b.bag.root index + top.free ≡ known.free + needed_below top.levels ready.tree index
+      pub grows : bag_insert b.bag index x ≡ grown_bag top.levels (insert_non_full top.levels ready.tree index x ready.free)
+      pub untouched : Untouched w w₁ all
+      pub within : (k : ℕ) → count k all ≡ 0 → count k (ids top.levels ready.tree ++ ready.free) ≡ 0
+
+    module _ {w₁ : List ℕ} {top : Known} (R : Roomy w₁ top) (w' : List ℕ) (n : ℕ)
+        (C : BelowDone w₁ w' top.levels top.root index x n) where
+      abbrev u : Tree top.levels
+      u = R.ready.tree
+
+      abbrev g : List ℕ
+      g = R.ready.free
+
+      D : InsertsBelow w₁ w' top.levels u g index x n
+      D = C R.ready
+
+      pub few_taken : n ≤ top.free
+      few_taken = omega (arith, D.taken, R.frees, R.ready.enough)
+
+      pub inserted : Inserts w w' b.bag index x (Some (record { root = top.root; levels = top.levels; free = top.free - n }))
+      inserted =
+          accepts
+          (grown top.levels (insert_non_full top.levels u index x g) (record { root = top.root; levels = top.levels; free = top.free - n })
+          R.grows (sym (insert_id top.levels u index x g ∙ R.ready.here)) refl
+          (left (top.free - n) (omega (arith, few_taken, D.taken, R.spent)))
+          D.grew.at D.grew.chain
+          (untouched_more (untouched_both R.untouched D.grew.untouched) (λ k z.
+          omega (arith, count-append k all (ids top.levels u ++ g), R.within k z))))
+
+    module _ (ne : known.root ≢ 0) (d : Bool) (told : Told w known.root d) where
+      abbrev O : Rooted w known b.bag
+      O = root_of b ne
 
       abbrev h : ℕ
       h = known.levels
 
       abbrev t : Tree h
-      t = R.tree
+      t = O.tree
 
-      abbrev g : List ℕ
-      g = b.bag.free
+      abbrev f₀ : List ℕ
+      f₀ = b.bag.free
 
-      -- the caller's nodes
-      all : {w' : List ℕ} → Untouched w w' (ids h t ++ g) → Untouched w w' (root_ids b.bag.root ++ g)
+      same_nodes : (k : ℕ) → count k all ≡ count k (ids h t ++ f₀)
       unfolding root_ids
-      all {w'} U = subst (λ (r : Root). Untouched w w' (root_ids r ++ g)) (sym R.is) U
+      same_nodes k = ap (λ (r : Root). count k (root_ids r ++ f₀)) O.is
 
       -- that has room
-      module _ (q : d ≡ false) where
-        pub needs_below : needed b.bag.root index ≡ needed_below h t index
-        needs_below = omega (arith, rw q at (root_needs b ne d D))
-
-        abbrev pub room_ready : InsertReady w known.levels known.root index
-        room_ready = record {
-          tree = t;
-          free = g;
-          owns = R.owns;
-          here = R.here;
-          some = R.some;
-          room = not_full h t (is_full_root b ne d D ∙ q);
-          upto = index_upto b ne;
-          enough = omega (arith, enough, needs_below);
-        }
-
-        module _ (w' : List ℕ) (n : ℕ) (C : BelowDone w w' known.levels known.root index x n) where
-          pub room_left : n ≤ known.free
-          room_left = omega (arith, (C room_ready).taken, enough, needs_below, free_count b)
-
-          pub room_inserted : Inserts w w' b.bag index x known
-              (record { done = true; known = record { root = known.root; levels = known.levels; free = known.free - n } })
-          room_inserted =
-              let Q = (C room_ready).grew in
-              accepts
-              (grown h (insert_non_full h t index x g) (record { root = known.root; levels = known.levels; free = known.free - n })
-              (bag_room b.bag index x h t R.is (is_full_root b ne d D ∙ q)) (sym (insert_id h t index x g ∙ R.here)) refl
-              (left (known.free - n) (omega (arith, room_left, (C room_ready).taken, needs_below)))
-              Q.at Q.chain (all Q.untouched))
+      pub room_roomy : d ≡ false → Roomy w known
+      room_roomy q =
+          let n : needed b.bag.root index ≡ needed_below h t index = omega (arith, rw q at (root_needs b ne d told)) in
+          record {
+            ready = record {
+              tree = t;
+              free = f₀;
+              owns = O.owns;
+              here = O.here;
+              some = O.some;
+              room = not_full h t (is_full_root b ne d told ∙ q);
+              upto = index_upto b ne;
+              enough = omega (arith, enough, n);
+            };
+            frees = free_count b;
+            spent = omega (arith, n);
+            grows = bag_room b.bag index x h t O.is (is_full_root b ne d told ∙ q);
+            untouched = untouched_none;
+            within = λ k z. omega (arith, same_nodes k);
+          }
 
       -- that is full
       module _ (q : d ≡ true) where
         pub needs_two : needed b.bag.root index ≡ 2 + needed_below h t index
-        needs_two = rw q at (root_needs b ne d D)
+        needs_two = rw q at (root_needs b ne d told)
 
         pub two_free : 2 ≤ known.free
         two_free = omega (arith, enough, needs_two, free_count b)
 
         pub root_full : length t.elems ≡ 31
-        root_full = omega (arith, full h t (is_full_root b ne d D ∙ q), most h t R.owns.fit)
+        root_full = omega (arith, full h t (is_full_root b ne d told ∙ q), most h t O.owns.fit)
 
         abbrev pub raise_ready : RaiseReady w known.root
         raise_ready = record {
           height = h;
           tree = t;
-          free = g;
-          owns = R.owns;
-          here = R.here;
+          free = f₀;
+          owns = O.owns;
+          here = O.here;
           full = root_full;
           two = omega (arith, enough, needs_two);
         }
 
         module _ (root : ℕ) (w₁ : List ℕ) (E : (s : RaiseReady w known.root) → Raised w w₁ s.height s.tree s.free root) where
-          abbrev u : Tree (suc h)
-          u = above_root h t g
+          abbrev above : Tree (suc h)
+          above = above_root h t f₀
 
-          raised : Raised w w₁ h t g root
+          raised : Raised w w₁ h t f₀ root
           raised = E raise_ready
 
-          lifted : Lifted h t index g u
-          lifted = lift_law h t R.owns.fit root_full index (index_upto b ne) g (omega (arith, enough, needs_two))
+          lifted : Lifted h t index f₀ above
+          lifted = lift_law h t O.owns.fit root_full index (index_upto b ne) f₀ (omega (arith, enough, needs_two))
 
-          abbrev raised_ready : InsertReady w₁ (suc h) root index
-          raised_ready = record {
-            tree = u;
-            free = drop 2 g;
-            owns = record {
-              at = raised.at;
-              fit = lifted.fit;
-              chain = raised.chain;
-              once = λ k. omega (arith, R.owns.once k, lifted.nodes k);
-              small = omega (arith, R.owns.small, lifted.sized);
+          pub full_roomy : Roomy w₁ (record { root = root; levels = known.levels + 1; free = known.free - 2 })
+          full_roomy = rw (add-one known.levels) (record {
+            ready = record {
+              tree = above;
+              free = drop 2 f₀;
+              owns = record {
+                at = raised.at;
+                fit = lifted.fit;
+                chain = raised.chain;
+                once = λ k. omega (arith, O.owns.once k, lifted.nodes k);
+                small = omega (arith, O.owns.small, lifted.sized);
+              };
+              here = lifted.id ∙ sym raised.first;
+              some = omega (arith, lifted.elems);
+              room = omega (arith, lifted.elems);
+              upto = omega (arith, index_upto b ne, lifted.sized);
+              enough = omega (arith, enough, needs_two, lifted.need, length-drop 2 f₀);
             };
-            here = lifted.id ∙ sym raised.first;
-            some = omega (arith, lifted.elems);
-            room = omega (arith, lifted.elems);
-            upto = omega (arith, index_upto b ne, lifted.sized);
-            enough = omega (arith, enough, needs_two, lifted.need, length-drop 2 g);
-          }
-
-          pub full_ready : InsertReady w₁ (known.levels + 1) root index
-          full_ready = rw (add-one known.levels) raised_ready
-
-          module _ (w' : List ℕ) (n : ℕ) (C : BelowDone w₁ w' (known.levels + 1) root index x n) where
-            below : InsertsBelow w₁ w' (suc h) u (drop 2 g) index x n
-            below = (rw (add-one known.levels) at C) raised_ready
-
-            pub full_left : n ≤ known.free - 2
-            full_left = omega (arith, below.taken, lifted.need, enough, needs_two, free_count b)
-
-            pub full_inserted : Inserts w w' b.bag index x known
-                (record { done = true; known = record { root = root; levels = known.levels + 1; free = known.free - 2 - n } })
-            full_inserted =
-                let Q = below.grew in
-                accepts
-                (grown (suc h) (insert_non_full (suc h) u index x (drop 2 g))
-                (record { root = root; levels = known.levels + 1; free = known.free - 2 - n })
-                (bag_full b.bag index x h t R.is (is_full_root b ne d D ∙ q))
-                (raised.first ∙ sym (insert_id (suc h) u index x (drop 2 g) ∙ lifted.id)) (add-one h)
-                (left (known.free - 2 - n) (omega (arith, full_left, two_free, below.taken, lifted.need, needs_two)))
-                Q.at Q.chain
-                (all (untouched_more (untouched_both raised.untouched Q.untouched) (λ k z.
-                omega (
-                  arith,
-                  lifted.nodes k,
-                  count-append k (ids h t) g,
-                  count-append k (ids h t ++ g) (ids (suc h) u ++ drop 2 g),
-                  count-append k (ids (suc h) u) (drop 2 g),
-                )))))
+            frees = omega (arith, free_count b, length-drop 2 f₀);
+            spent = omega (arith, two_free, needs_two, lifted.need);
+            grows = bag_full b.bag index x h t O.is (is_full_root b ne d told ∙ q);
+            untouched = untouched_more raised.untouched (λ k z. omega (arith, same_nodes k));
+            within = λ k z. omega (
+              arith,
+              same_nodes k,
+              lifted.nodes k,
+              count-append k (ids h t) f₀,
+              count-append k (ids (suc h) above) (drop 2 f₀),
+            );
+          })

@@ -1,10 +1,9 @@
 -- When an element can be inserted, and what an insertion into the whole list leaves.
-use Rattle.std.specs.Prelude.{◌≡◌, true, false, List, ℕ, ◌≤◌, ◌<◌, length}
+use Rattle.std.specs.Prelude.{◌≡◌, List, ℕ, ◌≤◌, ◌<◌, length, Option, Some, None}
 use Rattle.model.specs.Tree.{Tree, size, Bag, list_of}
 use Rattle.model.specs.Insert.{needed_below, needed, bag_insert}
 use Rattle.tree.specs.declared.Known.{Known}
 use Rattle.tree.specs.Stands.{Owns, known_of, BagStands, Became}
-use Rattle.insertion.specs.declared.Placed.{Placed}
 
 -- an element can be inserted at the index below node id, which is not full
 pub record InsertReady (w : List ℕ) (h id index : ℕ) : Type 0 where
@@ -24,7 +23,8 @@ pub record BagReady (w : List ℕ) (known : Known) (index : ℕ) : Type 0 where
   pub is : known ≡ known_of bag
   pub upto : index ≤ length (list_of bag.root)
 
--- done if the nodes needed are free, and else nothing
-pub record Inserts (w w' : List ℕ) (b : Bag) (index x : ℕ) (known : Known) (r : Placed) : Type 0 where
-  pub accepted : needed b.root index ≤ length b.free → (r.done ≡ true) × Became w w' b (bag_insert b index x) r.known
-  pub refused : length b.free < needed b.root index → (r.done ≡ false) × (r.known ≡ known) × (w' ≡ w)
+-- what is known of the bag then, if the nodes needed are free; and else nothing is done
+pub record Inserts (w w' : List ℕ) (b : Bag) (index x : ℕ) (r : Option Known) : Type 0 where
+  pub accepted : needed b.root index ≤ length b.free
+      → (r ≡ Some (known_of (bag_insert b index x))) × Became w w' b (bag_insert b index x) (known_of (bag_insert b index x))
+  pub refused : length b.free < needed b.root index → (r ≡ None) × (w' ≡ w)

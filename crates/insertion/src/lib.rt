@@ -14,13 +14,6 @@ ghost use Rattle.insertion.specs.Steps.{RoomReady, MakesRoom, InsertsBelow, Upto
 use pool::{COUNT, ELEMS, LENGTH, NODE_WORDS};
 use tree::{Known, Turn};
 
-// Whether an insertion was done, and what is known of the bag then.
-#[derive(Clone, Copy)]
-pub struct Placed {
-    pub done: bool,
-    pub known: Known,
-}
-
 // Where an insertion goes on from a node: the child with room, the index in it, and how many nodes were taken to make the room.
 #[derive(Clone, Copy)]
 pub struct Entry {
@@ -38,6 +31,7 @@ fn is_full(pool: &[u64], k: usize) -> bool
 }
 
 // Puts x into node k, as its element i.
+#[tactic(auto, using(tree::proofs::Standing::lent_long, tree::proofs::Standing::lent_count, tree::proofs::Standing::lent_length))]
 fn put_element(pool: &mut [u64], k: usize, i: usize, x: u64)
     requires { HasRoom pool.old k i }
     ensures { (s : HasRoom pool.old k i) → pool.new ≡ with_block pool.old k
@@ -99,17 +93,17 @@ fn make_room(pool: &mut [u64], id: usize, index: usize) -> Entry
     split::split_child(pool, id, t.child);
     let n = pool::length_at(pool, t.id);
     if t.sub <= n {
-        return Entry {
+        Entry {
             id: t.id,
             sub: t.sub,
             taken: 1,
-        };
-    }
-    let right = pool::kid_at(pool, id, t.child + 1);
-    Entry {
-        id: right,
-        sub: t.sub - n - 1,
-        taken: 1,
+        }
+    } else {
+        Entry {
+            id: pool::kid_at(pool, id, t.child + 1),
+            sub: t.sub - n - 1,
+            taken: 1,
+        }
     }
 }
 
@@ -146,9 +140,10 @@ fn needed_below(pool: &[u64], id: usize, levels: usize, index: usize) -> usize
     let t = way_in(pool, id, index);
     let below = needed_below(pool, t.id, levels - 1, t.sub);
     if is_full(pool, t.id) {
-        return 1 + below;
+        1 + below
+    } else {
+        below
     }
-    below
 }
 
 // How many nodes an insertion at the index takes.
@@ -161,9 +156,10 @@ fn needed(pool: &[u64], known: Known, index: usize) -> usize
     }
     let below = needed_below(pool, known.root, known.levels, index);
     if is_full(pool, known.root) {
-        return 2 + below;
+        2 + below
+    } else {
+        below
     }
-    below
 }
 
 // Whether fewer nodes are free than an insertion at the index takes. It takes no more than one for each level and two for the root:
@@ -172,42 +168,39 @@ fn lacks_room(pool: &[u64], known: Known, index: usize) -> bool
     requires { BagReady pool.now known index }
     ensures { (b : BagReady pool.now known index) → result ≡ ltb known.free (needed_for b.bag.root index) }
 {
-    if known.levels + 2 <= known.free {
-        return false;
-    }
-    let n = needed(pool, known, index);
-    known.free < n
+    known.free < known.levels + 2 && known.free < needed(pool, known, index)
 }
 
-// Puts x at the index, if the nodes that this needs are free.
-pub fn insert(pool: &mut [u64], known: Known, index: usize, x: u64) -> Placed
+// Puts x at the index, and gives what is known of the bag then; None where fewer nodes are free than this needs.
+pub fn insert(pool: &mut [u64], known: Known, index: usize, x: u64) -> Option<Known>
     requires { BagReady pool.old known index }
-    ensures { (b : BagReady pool.old known index)
-        → Inserts pool.old pool.new b.bag index x known result }
+    ensures { (b : BagReady pool.old known index) → Inserts pool.old pool.new b.bag index x result }
 {
     if lacks_room(pool, known, index) {
-        return Placed { done: false, known };
+        return None;
     }
     if known.root == 0 {
         let root = chain::take_node(pool);
         put_element(pool, root, 0, x);
-        let levels = 0;
-        let free = known.free - 1;
-        let known = Known { root, levels, free };
-        return Placed { done: true, known };
+        return Some(Known {
+            root,
+            levels: 0,
+            free: known.free - 1,
+        });
     }
-    if is_full(pool, known.root) {
+    let top = if is_full(pool, known.root) {
         let root = split::raise_root(pool, known.root);
-        let levels = known.levels + 1;
-        let taken = insert_into_non_full_node(pool, root, levels, index, x);
-        let free = known.free - 2 - taken;
-        let known = Known { root, levels, free };
-        return Placed { done: true, known };
-    }
-    let root = known.root;
-    let levels = known.levels;
-    let taken = insert_into_non_full_node(pool, root, levels, index, x);
-    let free = known.free - taken;
-    let known = Known { root, levels, free };
-    Placed { done: true, known }
+        Known {
+            root,
+            levels: known.levels + 1,
+            free: known.free - 2,
+        }
+    } else {
+        known
+    };
+    let taken = insert_into_non_full_node(pool, top.root, top.levels, index, x);
+    Some(Known {
+        free: top.free - taken,
+        ..top
+    })
 }

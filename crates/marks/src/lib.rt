@@ -40,7 +40,7 @@ pub fn claim(marks: &mut [u64], k: usize) -> bool
         return false;
     }
     let at = (k - 1) / WORD_MARKS;
-    marks[at] = marks[at] | mask_of(k);
+    marks[at] |= mask_of(k);
     true
 }
 
@@ -50,7 +50,7 @@ pub fn lowest(word: u64) -> Taken
     ensures { TakesOut word result }
 {
     Taken {
-        bit: u64::trailing_zeros(word) as usize,
+        bit: word.trailing_zeros() as usize,
         rest: word & (word - 1),
     }
 }

@@ -1,8 +1,11 @@
 -- What a call means on the bag that a sound pool holds: what it answers and leaves. The first refusal that applies decides, in 01's order.
-use Rattle.std.specs.Prelude.{Bool, true, false, cond, ℕ, zero, suc, ◌+◌, ◌-◌, leb, ltb, length}
+use Rattle.std.specs.Prelude.{Bool, true, false, cond, Result, Ok, Err, ℕ, zero, suc, ◌+◌, ◌-◌, leb, ltb, length}
 use Rattle.lists.specs.Lists.{same}
 use Rattle.model.specs.declared.Answer.{Answer}
 use Rattle.model.specs.declared.Walked.{Walked}
+use Rattle.model.specs.declared.Found.{Found}
+use Rattle.model.specs.declared.Refusal.{Refusal}
+use Rattle.model.specs.declared.Refusal.TheVariants.{Unsound, PastTheEnd, NoRoom, Misfit}
 use Rattle.model.specs.declared.Stretch.{Stretch}
 use Rattle.model.specs.Tree.{Tree, kid, size, find_in, find, at_separator, Bag, list_of, bag_get, bag_replace}
 use Rattle.model.specs.Insert.{bag_insert, needed}
@@ -20,6 +23,31 @@ refused n = answer n 0 0
 
 abbrev pub gives : ℕ → Answer
 gives v = answer 0 v 0
+
+-- ---- what C is told of an outcome
+
+abbrev pub number_of : Refusal → ℕ
+number_of Unsound = 1
+number_of PastTheEnd = 2
+number_of NoRoom = 3
+number_of Misfit = 4
+
+abbrev pub refusal : Refusal → Answer
+refusal why = refused (number_of why)
+
+-- what is given: nothing, yes or no, or what a lookup found
+abbrev pub done : Unit {0} → Answer
+done nothing = gives 0
+
+abbrev pub whether : Bool → Answer
+whether b = gives (cond b 1 0)
+
+abbrev pub found : Found → Answer
+found f = answer 0 f.element f.compared
+
+abbrev pub told : {A : Type 0} → (A → Answer) → Result A Refusal → Answer
+told give (Ok x) = give x
+told give (Err why) = refusal why
 
 abbrev pub length_of : Bag → ℕ
 length_of b = length (list_of b.root)

@@ -1,5 +1,11 @@
-// What the definitions and the code hand on to each other. There is no function here.
+// What the definitions and the code hand on to each other, and 01's numbers for it.
 #![tactic(auto)]
+
+ghost use Rattle.std.specs.Prelude.{◌≡◌, MatchResult};
+ghost use Rattle.model.specs.Calls.{number_of, refusal, done, gives, found, whether};
+
+use std::error::Error;
+use std::fmt;
 
 // Where an index goes in a node: a child, the index in it, and how many children were compared.
 #[derive(Clone, Copy)]
@@ -36,7 +42,38 @@ pub enum Way {
     ByMerge,
 }
 
-// A call's answer: 01's number, the element or number asked for, and a lookup's comparisons; 0 where there is none.
+// Why a call is refused.
+#[derive(Clone, Copy, Debug, PartialEq, Eq)]
+pub enum Refusal {
+    Unsound = 1,
+    PastTheEnd = 2,
+    NoRoom = 3,
+    Misfit = 4,
+}
+
+impl Refusal {
+    // 01's number.
+    pub fn number(self) -> u64
+        ensures { result ≡ number_of self }
+    {
+        self as u64
+    }
+}
+
+impl fmt::Display for Refusal {
+    fn fmt<W: fmt::Write>(&self, f: &mut fmt::Formatter<W>) -> fmt::Result {
+        match self {
+            Refusal::Unsound => write!(f, "the pool is not sound"),
+            Refusal::PastTheEnd => write!(f, "the index is past the end"),
+            Refusal::NoRoom => write!(f, "fewer nodes are free than are needed"),
+            Refusal::Misfit => write!(f, "the length is not that of a pool"),
+        }
+    }
+}
+
+impl Error for Refusal {}
+
+// A call's answer, as C has it: 01's number, the element or number asked for, and a lookup's comparisons; 0 where there is none.
 #[repr(C)]
 #[derive(Clone, Copy)]
 pub struct Answer {
@@ -45,7 +82,8 @@ pub struct Answer {
     pub compared: u64,
 }
 
-// A walk's answer: 01's number, the element, and the position that the walk has then.
+// A walk's answer, as C has it: 01's number, the element, and the position that the walk has then. A refusal gives a position too,
+// so this is no `Result`.
 #[repr(C)]
 #[derive(Clone, Copy)]
 pub struct Walked {
@@ -60,4 +98,69 @@ pub struct Stretch {
     pub node: usize,
     pub slot: usize,
     pub count: usize,
+}
+
+// ---- what C is told
+
+impl From<Refusal> for Answer {
+    ghost from_gives = { λ why a. a ≡ refusal why };
+
+    fn from(why: Refusal) -> Answer {
+        Answer {
+            number: why.number(),
+            value: 0,
+            compared: 0,
+        }
+    }
+}
+
+impl From<u64> for Answer {
+    ghost from_gives = { λ value a. a ≡ gives value };
+
+    fn from(value: u64) -> Answer {
+        Answer {
+            number: 0,
+            value,
+            compared: 0,
+        }
+    }
+}
+
+impl From<()> for Answer {
+    ghost from_gives = { λ nothing a. a ≡ done nothing };
+
+    fn from(_nothing: ()) -> Answer {
+        Answer::from(0)
+    }
+}
+
+impl From<bool> for Answer {
+    ghost from_gives = { λ b a. a ≡ whether b };
+
+    fn from(b: bool) -> Answer {
+        Answer::from(u64::from(b))
+    }
+}
+
+impl From<Found> for Answer {
+    ghost from_gives = { λ f a. a ≡ found f };
+
+    fn from(f: Found) -> Answer {
+        Answer {
+            number: 0,
+            value: f.element,
+            compared: f.compared as u64,
+        }
+    }
+}
+
+impl<T: Into<Answer>> From<Result<T, Refusal>> for Answer {
+    ghost from_gives = { λ given a. MatchResult given (λ x. T.converts x a) (λ why. a ≡ refusal why) };
+
+    fn from(given: Result<T, Refusal>) -> Answer {
+        match given {
+            Ok(it) => it.into(),
+            Err(why) => why.into(),
+        }
+    }
 }

@@ -1,7 +1,7 @@
 -- A piece that goes from one node through the separator of a second to a third: what each step asks, and the words in the end.
 use mathlib.Core.Path.{◌≡◌, sym, ◌∙◌}
 use mathlib.Core.List.{List, [], ◌∷◌}
-use Prim.Native.Nat.{ℕ, ◌+◌, ◌-◌, ◌^◌, ◌<◌}
+use Prim.Native.Nat.{ℕ, ◌+◌, ◌-◌}
 use native.Mathlib.Omega.{arith}
 use lib.ListN.{get_or, set, length-set}
 use Rattle.lists.specs.Lists.{count, insert_at, remove_at}
@@ -17,14 +17,14 @@ use Rattle.tree.specs.Lookup.{HasElement, Swapped}
 use Rattle.tree.proofs.Standing.{node_kid_at}
 use Rattle.tree.proofs.Edits.{node_untouched}
 use Rattle.pieces.specs.declared.Piece.{Piece}
-use Rattle.pieces.specs.declared.End.{End}
+use Rattle.pieces.specs.declared.Spot.{Spot}
 use Rattle.pieces.specs.Pieces.{Seated, Takes, TookOut, Puts, put_in, length_or, HasSlot, Lends, Lent}
 
 -- a node after an edit of others
 abbrev pub seated_kept : {w w' own : List ℕ} {k : ℕ} → Untouched w w' own → count k own ≡ 0 → Seated w k → Seated w' k
 seated_kept U z s = record { node = node_untouched U z s.node; seats = s.seats; leaf = s.leaf }
 
-module _ {w : List ℕ} {id c : ℕ} {from to : End} (s : Lends w id c from to)
+module _ {w : List ℕ} {id c : ℕ} {from to : Spot} (s : Lends w id c from to)
     (r : ℕ) (er : (q : HasSlot w from.node from.kid) → r ≡ length_or w (get_or q.seated.node.kids from.kid 0)) where
   abbrev a : Node w from.node
   a = s.lender.seated.node
@@ -38,10 +38,7 @@ module _ {w : List ℕ} {id c : ℕ} {from to : End} (s : Lends w id c from to)
   is : r ≡ length_or w (get_or a.kids from.kid 0)
   is = er s.lender
 
-  pub lend_few : r < 2 ^ 32
-  lend_few = omega (arith, s.small, is)
-
-  pub lend-take : Takes w from.node from.elem from.kid (r + 1)
+  pub lend-take : Takes w from (r + 1)
   lend-take = record {
     seated = s.lender.seated;
     elem = s.elem;
@@ -50,9 +47,9 @@ module _ {w : List ℕ} {id c : ℕ} {from to : End} (s : Lends w id c from to)
   }
 
   module _ (p : Piece) (w₁ : List ℕ)
-      (took : (q : Takes w from.node from.elem from.kid (r + 1)) → TookOut w w₁ from.node from.elem from.kid (r + 1)
+      (took : (q : Takes w from (r + 1)) → TookOut w w₁ from (r + 1)
       q.seated.node p) where
-    T : TookOut w w₁ from.node from.elem from.kid (r + 1) a p
+    T : TookOut w w₁ from (r + 1) a p
     unfolding lend-take
     T = took lend-take
 
@@ -83,7 +80,7 @@ module _ {w : List ℕ} {id c : ℕ} {from to : End} (s : Lends w id c from to)
       both : Untouched w w₂ (from.node ∷ (id ∷ []))
       both = untouched_both one.untouched two.untouched
 
-      pub lend_put : Puts w₂ to.node to.elem to.kid (r + 1)
+      pub lend_put : Puts w₂ to (r + 1)
       lend_put = record {
         seated = seated_kept both (count_other to.node from.node (id ∷ []) (λ q. s.apart (sym q)) ∙ one_other to.node id s.to_below)
             s.taker;
@@ -98,7 +95,7 @@ module _ {w : List ℕ} {id c : ℕ} {from to : End} (s : Lends w id c from to)
       lend-leaf z = node_kid_at lend_put.seated.node 0 (omega arith) ∙ s.alike (sym T.kid ∙ z)
 
       pub lent : (w₃ : List ℕ)
-          → ((q : Puts w₂ to.node to.elem to.kid (r + 1)) → w₃ ≡ with_block w₂ to.node
+          → ((q : Puts w₂ to (r + 1)) → w₃ ≡ with_block w₂ to.node
           (put_in q.seated.node to.elem to.kid x p.kid (r + 1)))
           → Lent w w₃ id c from to a e b
       unfolding lend_swap lend_put

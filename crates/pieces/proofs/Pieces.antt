@@ -21,6 +21,7 @@ use Rattle.pool.proofs.Slots.{parts}
 use Rattle.pool.proofs.Areas.{Area, elem_area, kid_area, length_parts, area_word, area_read, area_append, area_open, area_close}
 use Rattle.tree.specs.Node.{Node}
 use Rattle.tree.proofs.Standing.{node_count, node_size, lent, lent_count, lent_length, node_kid_at}
+use Rattle.pieces.specs.declared.Spot.{Spot}
 use Rattle.pieces.specs.Pieces.{Seated, Takes, TookOut, Puts, put_in, Joins, length_or, HasSlot}
 
 -- a node has the length that its words say
@@ -54,84 +55,84 @@ zeros_alike X Y l m = zeros_behind 32 [] X (omega arith) ∙ sym (zeros_behind 3
 
 -- ---- a piece taken out, and one put in
 
-module _ {w : List ℕ} {k i j n : ℕ} (s : Takes w k i j n) (a : ℕ) (ea : a ≡ start k) (x y : ℕ) (b₁ b₂ : List ℕ) where
-  pub took_out : (x ≡ get_or (part w a) (2 + i) 0)
-      × (b₁ ≡ sets (part w a) (2 + i) (run (part w a) (2 + i + 1) (2 + get_or (part w a) 0 0 - (2 + i) - 1) ++ (0 ∷ [])))
-      → ((y ≡ get_or b₁ (33 + j) 0)
-      × (b₂ ≡ sets b₁ (33 + j) (run b₁ (33 + j + 1) (33 + get_or (part w a) 0 0 + 1 - (33 + j) - 1) ++ (0 ∷ []))))
+module _ {w : List ℕ} {from : Spot} {n : ℕ} (s : Takes w from n) (a : ℕ) (ea : a ≡ start from.node) (x y : ℕ) (b₁ b₂ : List ℕ) where
+  pub took_out : (x ≡ get_or (part w a) (2 + from.elem) 0)
+      × (b₁ ≡ sets (part w a) (2 + from.elem) (run (part w a) (2 + from.elem + 1) (2 + get_or (part w a) 0 0 - (2 + from.elem) - 1) ++ (0 ∷ [])))
+      → ((y ≡ get_or b₁ (33 + from.kid) 0)
+      × (b₂ ≡ sets b₁ (33 + from.kid) (run b₁ (33 + from.kid + 1) (33 + get_or (part w a) 0 0 + 1 - (33 + from.kid) - 1) ++ (0 ∷ []))))
       ⊎ ((get_or b₁ 33 0 ≡ 0) × (y ≡ 0) × (b₂ ≡ b₁))
-      → TookOut w (put_mid a (a + node_words - a) w (set (set b₂ 0 (get_or (part w a) 0 0 - 1)) 1 (get_or (part w a) 1 0 - n))) k i j n
+      → TookOut w (put_mid a (a + node_words - a) w (set (set b₂ 0 (get_or (part w a) 0 0 - 1)) 1 (get_or (part w a) 1 0 - n))) from n
       s.seated.node (record { elem = x; kid = y })
   unfolding node_block remove_at
   took_out p q =
       let m = s.seated.node in
       let fe = m.few_elems in
       let one_more = s.seated.seats in
-      let is : List ℕ = remove_at m.elems i in
-      let js : List ℕ = remove_at m.kids j in
-      let li : length is + 1 ≡ length m.elems = length-remove_at m.elems i s.elem in
-      let lj : length js + 1 ≡ length m.kids = length-remove_at m.kids j (omega (arith, s.kid)) in
+      let is : List ℕ = remove_at m.elems from.elem in
+      let js : List ℕ = remove_at m.kids from.kid in
+      let li : length is + 1 ≡ length m.elems = length-remove_at m.elems from.elem s.elem in
+      let lj : length js + 1 ≡ length m.kids = length-remove_at m.kids from.kid (omega (arith, s.kid)) in
       let si : length (slots 31 is) ≡ 31 = length-slots 31 is (omega arith) in
       let E = elem_area (length m.elems) m.size (slots 32 m.kids) in
       let K = kid_area (length m.elems) m.size (slots 31 is) si in
       let count = lent_count m a ea in
       let one : b₁ ≡ parts (length m.elems) m.size (slots 31 is) (slots 32 m.kids) 0 =
-      p.1 ∙ rw (count, lent m a ea) (area_close E m.elems fe i (2 + length m.elems) s.elem refl) in
+      p.1 ∙ rw (count, lent m a ea) (area_close E m.elems fe from.elem (2 + length m.elems) s.elem refl) in
       let slot : (c : ℕ) → c < 32 → get_or b₁ (33 + c) 0 ≡ get_or m.kids c 0 = (λ c l. rw one (area_word K m.kids m.few_kids c l)) in
-      let two : (y ≡ get_or m.kids j 0) × (b₂ ≡ parts (length m.elems) m.size (slots 31 is) (slots 32 js) 0) =
+      let two : (y ≡ get_or m.kids from.kid 0) × (b₂ ≡ parts (length m.elems) m.size (slots 31 is) (slots 32 js) 0) =
       ⊎_elim
       (λ r. (
-        r.0 ∙ slot j (omega (arith, s.kid)),
-        r.1 ∙ rw (count, one) (area_close K m.kids m.few_kids j (33 + length m.elems + 1) (omega (arith, s.kid)) (omega arith)),
+        r.0 ∙ slot from.kid (omega (arith, s.kid)),
+        r.1 ∙ rw (count, one) (area_close K m.kids m.few_kids from.kid (33 + length m.elems + 1) (omega (arith, s.kid)) (omega arith)),
       ))
       (λ r.
       let first : get_or m.kids 0 0 ≡ 0 = sym (slot 0 (omega arith)) ∙ r.0 in
       let Z = leaf-zeros s.seated first in (
-        r.1 ∙ sym (s.seated.leaf first j (omega (arith, s.kid))),
+        r.1 ∙ sym (s.seated.leaf first from.kid (omega (arith, s.kid))),
         r.2 ∙ one ∙ ap (λ (z : List ℕ). parts (length m.elems) m.size (slots 31 is) z 0)
-            (zeros_alike Z (all_append (all_take j Z) (all_drop (suc j) Z)) m.few_kids (omega arith)),
+            (zeros_alike Z (all_append (all_take from.kid Z) (all_drop (suc from.kid) Z)) m.few_kids (omega arith)),
       )) q in
       let less : length m.elems - 1 ≡ length is = omega arith in
       record {
-        elem = p.0 ∙ rw (lent m a ea) (area_word E m.elems fe i (omega (arith, s.elem)));
+        elem = p.0 ∙ rw (lent m a ea) (area_word E m.elems fe from.elem (omega (arith, s.elem)));
         kid = two.0;
         words = rw (count, lent_length m a ea, two.1, less)
-            (block_put w a k ea (parts (length is) (m.size - n) (slots 31 is) (slots 32 js) 0) m.stored.inside
+            (block_put w a from.node ea (parts (length is) (m.size - n) (slots 31 is) (slots 32 js) 0) m.stored.inside
             (length_parts (length is) (m.size - n) (slots 31 is) (slots 32 js) si (length-slots 32 js (omega arith))));
       }
 
-module _ {w : List ℕ} {k i j n : ℕ} (s : Puts w k i j n) (a : ℕ) (ea : a ≡ start k) (x y : ℕ) (leaf : y ≡ 0 → kid_at w k 0 ≡ 0)
-    (b₁ b₂ : List ℕ) where
-  pub put_in_lem : b₁ ≡ sets (part w a) (2 + i) (x ∷ run (part w a) (2 + i) (2 + get_or (part w a) 0 0 - (2 + i)))
-      → (b₂ ≡ sets b₁ (33 + j) (y ∷ run b₁ (33 + j) (33 + get_or (part w a) 0 0 + 1 - (33 + j)))) ⊎ ((y ≡ 0) × (b₂ ≡ b₁))
+module _ {w : List ℕ} {to : Spot} {n : ℕ} (s : Puts w to n) (a : ℕ) (ea : a ≡ start to.node) (x y : ℕ)
+    (leaf : y ≡ 0 → kid_at w to.node 0 ≡ 0) (b₁ b₂ : List ℕ) where
+  pub put_in_lem : b₁ ≡ sets (part w a) (2 + to.elem) (x ∷ run (part w a) (2 + to.elem) (2 + get_or (part w a) 0 0 - (2 + to.elem)))
+      → (b₂ ≡ sets b₁ (33 + to.kid) (y ∷ run b₁ (33 + to.kid) (33 + get_or (part w a) 0 0 + 1 - (33 + to.kid)))) ⊎ ((y ≡ 0) × (b₂ ≡ b₁))
       → put_mid a (a + node_words - a) w (set (set b₂ 0 (get_or (part w a) 0 0 + 1)) 1 (get_or (part w a) 1 0 + n))
-      ≡ with_block w k (put_in s.seated.node i j x y n)
+      ≡ with_block w to.node (put_in s.seated.node to.elem to.kid x y n)
   unfolding node_block insert_at
   put_in_lem p q =
       let m = s.seated.node in
       let fe = m.few_elems in
       let one_more = s.seated.seats in
-      let is : List ℕ = insert_at m.elems i x in
-      let js : List ℕ = insert_at m.kids j y in
-      let li : length is ≡ length m.elems + 1 = length-insert_at m.elems i x s.elem in
-      let lj : length js ≡ length m.kids + 1 = length-insert_at m.kids j y (omega (arith, s.kid)) in
+      let is : List ℕ = insert_at m.elems to.elem x in
+      let js : List ℕ = insert_at m.kids to.kid y in
+      let li : length is ≡ length m.elems + 1 = length-insert_at m.elems to.elem x s.elem in
+      let lj : length js ≡ length m.kids + 1 = length-insert_at m.kids to.kid y (omega (arith, s.kid)) in
       let si : length (slots 31 is) ≡ 31 = length-slots 31 is (omega (arith, s.room)) in
       let E = elem_area (length m.elems) m.size (slots 32 m.kids) in
       let K = kid_area (length m.elems) m.size (slots 31 is) si in
       let count = lent_count m a ea in
       let one : b₁ ≡ parts (length m.elems) m.size (slots 31 is) (slots 32 m.kids) 0 =
-      p ∙ rw (count, lent m a ea) (area_open E m.elems fe i (2 + length m.elems) x s.elem (omega (arith, s.room)) refl) in
+      p ∙ rw (count, lent m a ea) (area_open E m.elems fe to.elem (2 + length m.elems) x s.elem (omega (arith, s.room)) refl) in
       let two : b₂ ≡ parts (length m.elems) m.size (slots 31 is) (slots 32 js) 0 =
       ⊎_elim
       (λ r.
-      r ∙ rw (count, one) (area_open K m.kids m.few_kids j (33 + length m.elems + 1) y (omega (arith, s.kid)) (omega (arith, s.room))
+      r ∙ rw (count, one) (area_open K m.kids m.few_kids to.kid (33 + length m.elems + 1) y (omega (arith, s.kid)) (omega (arith, s.room))
       (omega arith)))
       (λ r.
       let Z = leaf-zeros s.seated (sym (node_kid_at m 0 (omega arith)) ∙ leaf r.0) in
       r.1 ∙ one ∙ ap (λ (z : List ℕ). parts (length m.elems) m.size (slots 31 is) z 0)
-      (zeros_alike Z (all_append (all_take j Z) (cons r.0 (all_drop j Z))) m.few_kids (omega (arith, s.room)))) q in
+      (zeros_alike Z (all_append (all_take to.kid Z) (cons r.0 (all_drop to.kid Z))) m.few_kids (omega (arith, s.room)))) q in
       rw (count, lent_length m a ea, two, ← li)
-      (block_put w a k ea (parts (length is) (m.size + n) (slots 31 is) (slots 32 js) 0) m.stored.inside
+      (block_put w a to.node ea (parts (length is) (m.size + n) (slots 31 is) (slots 32 js) 0) m.stored.inside
       (length_parts (length is) (m.size + n) (slots 31 is) (slots 32 js) si (length-slots 32 js (omega (arith, s.room)))))
 
 -- ---- what is below a child slot

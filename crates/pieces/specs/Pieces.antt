@@ -7,7 +7,7 @@ use Rattle.pool.specs.Frame.{Untouched}
 use Rattle.tree.specs.Node.{Node}
 use Rattle.tree.specs.Lookup.{HasElement}
 use Rattle.pieces.specs.declared.Piece.{Piece}
-use Rattle.pieces.specs.declared.End.{End}
+use Rattle.pieces.specs.declared.Spot.{Spot}
 
 -- a node with one child slot more than elements; in a leaf, where the first is 0, they all are
 pub record Seated (w : List ℕ) (k : ℕ) : Type 0 where
@@ -15,23 +15,23 @@ pub record Seated (w : List ℕ) (k : ℕ) : Type 0 where
   pub seats : length node.kids ≡ length node.elems + 1
   pub leaf : get_or node.kids 0 0 ≡ 0 → (c : ℕ) → c < length node.kids → get_or node.kids c 0 ≡ 0
 
--- element i and child j can be taken out of node k, and n elements of its subtree with them
-pub record Takes (w : List ℕ) (k i j n : ℕ) : Type 0 where
-  pub seated : Seated w k
-  pub elem : i < length seated.node.elems
-  pub kid : j ≤ length seated.node.elems
+-- the element and the child at a spot can be taken out of its node, and n elements of the subtree with them
+pub record Takes (w : List ℕ) (from : Spot) (n : ℕ) : Type 0 where
+  pub seated : Seated w from.node
+  pub elem : from.elem < length seated.node.elems
+  pub kid : from.kid ≤ length seated.node.elems
   pub less : n ≤ seated.node.size
 
-pub record TookOut (w w' : List ℕ) (k i j n : ℕ) (m : Node w k) (r : Piece) : Type 0 where
-  pub elem : r.elem ≡ get_or m.elems i 0
-  pub kid : r.kid ≡ get_or m.kids j 0
-  pub words : w' ≡ with_block w k (node_block (m.size - n) (remove_at m.elems i) (remove_at m.kids j))
+pub record TookOut (w w' : List ℕ) (from : Spot) (n : ℕ) (m : Node w from.node) (r : Piece) : Type 0 where
+  pub elem : r.elem ≡ get_or m.elems from.elem 0
+  pub kid : r.kid ≡ get_or m.kids from.kid 0
+  pub words : w' ≡ with_block w from.node (node_block (m.size - n) (remove_at m.elems from.elem) (remove_at m.kids from.kid))
 
--- a piece can be put into node k, as element i and child j
-pub record Puts (w : List ℕ) (k i j n : ℕ) : Type 0 where
-  pub seated : Seated w k
-  pub elem : i ≤ length seated.node.elems
-  pub kid : j ≤ length seated.node.elems + 1
+-- a piece can be put into a node, at a spot
+pub record Puts (w : List ℕ) (to : Spot) (n : ℕ) : Type 0 where
+  pub seated : Seated w to.node
+  pub elem : to.elem ≤ length seated.node.elems
+  pub kid : to.kid ≤ length seated.node.elems + 1
   pub room : length seated.node.elems ≤ 30
   pub small : seated.node.size + n < 2 ^ 64
 
@@ -57,9 +57,9 @@ pub record HasSlot (w : List ℕ) (k j : ℕ) : Type 0 where
   pub place : j ≤ length seated.node.elems
   pub inside : get_or seated.node.kids j 0 ≢ 0 → Inside w (get_or seated.node.kids j 0)
 
--- a piece can go from an end of one node into the place of separator c of node id, and what stood there to an end of another;
+-- a piece can go from a spot in one node into the place of separator c of node id, and what stood there to a spot in another;
 -- a piece without a child goes into a leaf
-pub record Lends (w : List ℕ) (id c : ℕ) (from to : End) : Type 0 where
+pub record Lends (w : List ℕ) (id c : ℕ) (from to : Spot) : Type 0 where
   pub parent : HasElement w id c
   pub lender : HasSlot w from.node from.kid
   pub taker : Seated w to.node
@@ -74,7 +74,7 @@ pub record Lends (w : List ℕ) (id c : ℕ) (from to : End) : Type 0 where
   pub room : length taker.node.elems ≤ 30
   pub small : taker.node.size + length_or w (get_or lender.seated.node.kids from.kid 0) < 2 ^ 32
 
-pub record Lent (w w' : List ℕ) (id c : ℕ) (from to : End) (a : Node w from.node) (e : Node w id) (b : Node w to.node) : Type 0 where
+pub record Lent (w w' : List ℕ) (id c : ℕ) (from to : Spot) (a : Node w from.node) (e : Node w id) (b : Node w to.node) : Type 0 where
   pub lender : Stored w' from.node
       (node_block (a.size - (length_or w (get_or a.kids from.kid 0) + 1)) (remove_at a.elems from.elem) (remove_at a.kids from.kid))
   pub parent : Stored w' id (node_block e.size (set e.elems c (get_or a.elems from.elem 0)) e.kids)

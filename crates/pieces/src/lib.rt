@@ -2,7 +2,7 @@
 // A leaf's child words are all 0, and stay so: they are not moved.
 #![tactic(auto)]
 
-ghost use Rattle.std.specs.Prelude.{◌≡◌, ◌∷◌, ◌++◌, ◌+◌, get_or};
+ghost use Rattle.std.specs.Prelude.{◌≡◌, ◌∷◌, ◌++◌, ◌+◌, ◌-◌, ◌<◌, ◌≤◌, get_or};
 ghost use Rattle.pool.specs.Layout.{node_block, with_block};
 ghost use Rattle.pool.specs.Parts.{kid_at};
 ghost use Rattle.pieces.specs.Pieces.{Takes, TookOut, Puts, put_in, Joins, length_or, HasSlot, Lends, Lent};
@@ -16,54 +16,94 @@ pub struct Piece {
     pub kid: usize,
 }
 
-// An end of a node: where a piece is taken from, or put.
+// A spot in a node, as element and child: where a piece is taken from, or put.
 #[derive(Clone, Copy)]
-pub struct End {
+pub struct Spot {
     pub node: usize,
     pub elem: usize,
     pub kid: usize,
 }
 
-// Takes element i and child j out of node k, and n elements of its subtree with them.
-pub fn take_out(pool: &mut [u64], k: usize, i: usize, j: usize, n: usize) -> Piece
-    requires { Takes pool.old k i j n }
-    ensures { (s : Takes pool.old k i j n)
-        → TookOut pool.old pool.new k i j n s.seated.node result }
+impl Spot {
+    // In front of all, or the first.
+    pub fn front(node: usize) -> Spot
+        ensures { result ≡ record { node = node; elem = 0; kid = 0 } }
+    {
+        Spot {
+            node,
+            elem: 0,
+            kid: 0,
+        }
+    }
+
+    // The last of a node that has so many elements.
+    pub fn last(node: usize, count: usize) -> Spot
+        requires { 0 < count }
+        ensures { result ≡ record { node = node; elem = count - 1; kid = count } }
+    {
+        Spot {
+            node,
+            elem: count - 1,
+            kid: count,
+        }
+    }
+
+    // Behind all of a node that has so many elements.
+    pub fn behind(node: usize, count: usize) -> Spot
+        requires { count ≤ 31 }
+        ensures { result ≡ record { node = node; elem = count; kid = count + 1 } }
+    {
+        Spot {
+            node,
+            elem: count,
+            kid: count + 1,
+        }
+    }
+}
+
+// Takes the element and the child at a spot out of its node, and n elements of the subtree with them.
+#[tactic(auto, using(tree::proofs::Standing::lent_long, tree::proofs::Standing::lent_count, tree::proofs::Standing::lent_length))]
+pub fn take_out(pool: &mut [u64], from: Spot, n: usize) -> Piece
+    requires { Takes pool.old from n }
+    ensures { (s : Takes pool.old from n) → TookOut pool.old pool.new from n s.seated.node result }
 {
-    let a = pool::start_of(k);
+    let a = pool::start_of(from.node);
     let node = &mut pool[a..a + NODE_WORDS];
     let m = node[COUNT] as usize;
     let s = node[LENGTH] as usize;
-    let elem = words::close_gap(node, ELEMS + i, ELEMS + m);
-    let mut kid = 0;
-    if !pool::is_leaf(node) {
-        kid = words::close_gap(node, KIDS + j, KIDS + m + 1) as usize;
-    }
+    let elem = words::close_gap(node, ELEMS + from.elem, ELEMS + m);
+    let kid = if pool::is_leaf(node) {
+        0
+    } else {
+        words::close_gap(node, KIDS + from.kid, KIDS + m + 1) as usize
+    };
     node[COUNT] = (m - 1) as u64;
     node[LENGTH] = (s - n) as u64;
     Piece { elem, kid }
 }
 
-// Puts a piece, with n elements in all, into node k as element i and child j; without a child it goes into a leaf.
-fn put_in(pool: &mut [u64], k: usize, i: usize, j: usize, p: Piece, n: usize)
-    requires puts { Puts pool.old k i j n }
-    requires k_value { p.kid ≡ 0 → kid_at pool.old k 0 ≡ 0 }
-    ensures { (s : Puts pool.old k i j n)
-        → pool.new ≡ with_block pool.old k (put_in s.seated.node i j p.elem p.kid n) }
+// Puts a piece, with n elements in all, into a node at a spot; without a child it goes into a leaf.
+#[tactic(auto, using(tree::proofs::Standing::lent_long, tree::proofs::Standing::lent_count, tree::proofs::Standing::lent_length))]
+fn put_in(pool: &mut [u64], to: Spot, p: Piece, n: usize)
+    requires puts { Puts pool.old to n }
+    requires k_value { p.kid ≡ 0 → kid_at pool.old to.node 0 ≡ 0 }
+    ensures { (s : Puts pool.old to n)
+        → pool.new ≡ with_block pool.old to.node (put_in s.seated.node to.elem to.kid p.elem p.kid n) }
 {
-    let a = pool::start_of(k);
+    let a = pool::start_of(to.node);
     let node = &mut pool[a..a + NODE_WORDS];
     let m = node[COUNT] as usize;
     let s = node[LENGTH] as usize;
-    words::open_gap(node, ELEMS + i, ELEMS + m, p.elem);
+    words::open_gap(node, ELEMS + to.elem, ELEMS + m, p.elem);
     if p.kid != 0 {
-        words::open_gap(node, KIDS + j, KIDS + m + 1, p.kid as u64);
+        words::open_gap(node, KIDS + to.kid, KIDS + m + 1, p.kid as u64);
     }
     node[COUNT] = (m + 1) as u64;
     node[LENGTH] = (s + n) as u64;
 }
 
 // All of node r goes behind node l's own, with x between.
+#[tactic(auto, using(tree::proofs::Standing::node_count, tree::proofs::Standing::node_size))]
 pub fn append(pool: &mut [u64], l: usize, x: u64, r: usize)
     requires { Joins pool.old l r }
     ensures { (s : Joins pool.old l r)
@@ -96,15 +136,14 @@ fn length_below(pool: &[u64], k: usize, j: usize) -> usize
     pool::length_at(pool, y)
 }
 
-// A piece goes from an end of one node into the place of separator c of node id, and what stood there to an end of another.
-pub fn lend(pool: &mut [u64], id: usize, c: usize, from: End, to: End)
+// A piece goes from a spot in one node into the place of separator c of node id, and what stood there to a spot in another.
+pub fn lend(pool: &mut [u64], id: usize, c: usize, from: Spot, to: Spot)
     requires { Lends pool.old id c from to }
     ensures { (s : Lends pool.old id c from to)
         → Lent pool.old pool.new id c from to s.lender.seated.node s.parent.node s.taker.node }
 {
     let n = length_below(pool, from.node, from.kid) + 1;
-    let p = take_out(pool, from.node, from.elem, from.kid, n);
+    let p = take_out(pool, from, n);
     let elem = tree::swap_element(pool, id, c, p.elem);
-    let kid = p.kid;
-    put_in(pool, to.node, to.elem, to.kid, Piece { elem, kid }, n);
+    put_in(pool, to, Piece { elem, ..p }, n);
 }

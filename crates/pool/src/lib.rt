@@ -1,4 +1,6 @@
 // The pool: where a node's words are, what they say, and the child finder.
+// A node's words go as `&pool[a..a + 66]` to the finder and to each node fact (01, forms by place): no type holds them with their length,
+// and each fact of node k is a function that lends them.
 #![tactic(auto)]
 
 ghost use Rattle.std.specs.Prelude.{◌≡◌, ◌+◌, ◌^◌, ◌<◌, ◌≤◌, eqb, leb, length, get_or};
@@ -33,6 +35,7 @@ pub const KIDS: usize = 33;
 pub const LINK: usize = 65;
 
 // Whether a pool of n words can be one: what so many nodes take, and not too many.
+#[tactic(auto, unfolding(crate::specs::Sound::fits))]
 pub fn length_fits(n: usize) -> bool
     ensures { result ≡ fits n }
 {
@@ -68,6 +71,7 @@ pub fn len(node: &[u64]) -> usize
 }
 
 // Both counts of node k in the pool.
+#[tactic(auto, using(crate::proofs::Store::block_in))]
 pub fn count_at(pool: &[u64], k: usize) -> usize
     requires { Inside pool.now k }
     ensures { result ≡ count_at pool.now k }
@@ -76,6 +80,7 @@ pub fn count_at(pool: &[u64], k: usize) -> usize
     count_of(&pool[a..a + NODE_WORDS])
 }
 
+#[tactic(auto, using(crate::proofs::Store::block_in))]
 pub fn length_at(pool: &[u64], k: usize) -> usize
     requires { Inside pool.now k }
     ensures { result ≡ length_at pool.now k }
@@ -85,6 +90,7 @@ pub fn length_at(pool: &[u64], k: usize) -> usize
 }
 
 // The id of its child c.
+#[tactic(auto, using(crate::proofs::Store::block_in))]
 pub fn kid_at(pool: &[u64], k: usize, c: usize) -> usize
     requires inside { Inside pool.now k }
     requires c_bound { c < 32 }
@@ -95,6 +101,7 @@ pub fn kid_at(pool: &[u64], k: usize, c: usize) -> usize
 }
 
 // Whether it has none.
+#[tactic(auto, using(crate::proofs::Store::block_in))]
 pub fn leaf_at(pool: &[u64], k: usize) -> bool
     requires { Inside pool.now k }
     ensures { result ≡ eqb (kid_at pool.now k 0) 0 }
@@ -138,9 +145,8 @@ pub fn find_child_index(pool: &[u64], node: &[u64], index: usize) -> Place
     requires { Inner pool.now node.now index }
     ensures { result ≡ find_in (kid_lengths pool.now node.now) index }
 {
-    let mut child = 0;
     let mut sub = index;
-    loop {
+    for child in 0..=count_of(node) {
         let n = length_at(pool, kid(node, child));
         if sub <= n {
             return Place {
@@ -150,6 +156,6 @@ pub fn find_child_index(pool: &[u64], node: &[u64], index: usize) -> Place
             };
         }
         sub -= n + 1;
-        child += 1;
     }
+    unreachable!()
 }

@@ -1,7 +1,5 @@
 -- 01's table of commands: a byte of kind, then a body whose length the kind fixes.
-use Rattle.std.specs.Prelude.{◌≡◌, List, [], ◌∷◌, cond, ℕ, ◌+◌, ◌≤◌, ◌<◌, eqb, leb, length, get_or}
-use Rattle.records.specs.declared.Body.{Body}
-use Rattle.records.specs.declared.Body.TheVariants.{Bytes, Unknown}
+use Rattle.std.specs.Prelude.{◌≡◌, List, [], ◌∷◌, cond, Option, Some, None, ℕ, ◌+◌, ◌≤◌, ◌<◌, eqb, leb, length, get_or}
 use Rattle.records.specs.declared.Command.{Command}
 use Rattle.records.specs.declared.Command.TheVariants.{Insert, Remove, Push, Get, Replace, Len}
 use Rattle.records.specs.Numbers.{number_at}
@@ -12,9 +10,9 @@ row_of [] else k = else
 row_of (row ∷ rows) else k = cond (eqb k row.0) row.1 (row_of rows else k)
 
 -- how many bytes the body has
-unfoldable pub body_of : ℕ → Body
+unfoldable pub body_of : ℕ → Option ℕ
 unfolding row_of
-body_of = row_of ((1, Bytes 12) ∷ (2, Bytes 4) ∷ (3, Bytes 8) ∷ (4, Bytes 4) ∷ (5, Bytes 12) ∷ (6, Bytes 0) ∷ []) Unknown
+body_of = row_of ((1, Some 12) ∷ (2, Some 4) ∷ (3, Some 8) ∷ (4, Some 4) ∷ (5, Some 12) ∷ (6, Some 0) ∷ []) None
 
 -- the command of a known kind at a place: an index is 4 bytes, an element 8
 unfoldable pub command_at : List ℕ → ℕ → Command
@@ -35,16 +33,16 @@ command_at s at =
 -- a kind that is known, and all of its body
 pub record Stands (s : List ℕ) (at : ℕ) : Type 0 where
   pub kind : at < length s
-  pub body : (n : ℕ) → body_of (get_or s at 0) ≡ Bytes n → at + 1 + n ≤ length s
+  pub body : (n : ℕ) → body_of (get_or s at 0) ≡ Some n → at + 1 + n ≤ length s
 
 -- what can stand at a place of the input
 pub data Next : Type 0 where
   End UnknownKind CutShort : Next
   Whole : Command → ℕ → Next
 
-abbrev pub whole_at : List ℕ → ℕ → Body → Next
-whole_at s at Unknown = UnknownKind
-whole_at s at (Bytes n) = cond (leb (at + 1 + n) (length s)) (Whole (command_at s at) (n + 1)) CutShort
+abbrev pub whole_at : List ℕ → ℕ → Option ℕ → Next
+whole_at s at None = UnknownKind
+whole_at s at (Some n) = cond (leb (at + 1 + n) (length s)) (Whole (command_at s at) (n + 1)) CutShort
 
 -- what stands at a place of the input: its end, an unknown kind, a command cut short, or a whole one with its length
 unfoldable pub next_at : List ℕ → ℕ → Next

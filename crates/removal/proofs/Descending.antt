@@ -1,51 +1,43 @@
 -- One level of a removal in the model, as the way down and the way up: no pool is in sight.
-use mathlib.Core.Path.{◌≡◌, refl, sym, ◌∙◌}
-use mathlib.Core.Bool.{Bool, true, false, cond, true≢false}
+use mathlib.Core.Path.{◌≡◌, refl, ◌∙◌}
+use Rattle.std.specs.Prelude.{Option, Some, None}
 use mathlib.Core.List.{List, ◌∷◌}
 use Prim.Native.Nat.{ℕ, zero, suc, ◌+◌, ◌-◌, ◌≤◌, ◌<◌}
 use native.Mathlib.Omega.{arith}
-use lib.ListN.{length, get_or, set}
+use lib.ListN.{length, set}
 use Rattle.model.specs.declared.Repair.{Repair}
 use Rattle.model.specs.declared.Repair.TheVariants.{Nothing, FromLeft, FromRight, WithLeft, WithRight}
 use Rattle.model.specs.declared.Way.{Way}
 use Rattle.model.specs.declared.Way.TheVariants.{Inside, ByLast, ByFirst, ByMerge}
 use Rattle.model.specs.Tree.{Tree, kid, size, find, before}
 use Rattle.model.specs.Fit.{Fit}
-use Rattle.model.specs.Remove.{merge, repair_for, repaired, Filled, fill, Shrunk, back, swapped, way_for, remove_step, remove}
+use Rattle.model.specs.Remove.{merge, repair_for, repaired, Filled, fill, Shrunk, way_for, remove_step, remove}
 use Rattle.model.proofs.Nodes.{size_least, Rearranged, rearranged}
 use Rattle.model.proofs.Find.{Step, step, separator}
 use Rattle.model.proofs.Fill.{Refilled, merge_refills, fill_law}
 use Rattle.model.proofs.Remove.{Says, says}
-use Rattle.removal.specs.Down.{Descended, entered, beside, down_by, descend, ascend}
+use Rattle.removal.specs.Down.{Descended, entered, beside, down_by, descend, up_by, ascend, swapped_in, given_back}
 
 -- ---- the way up
 
 -- with or without a swapped separator
 abbrev pub raised : (h : ℕ) → Descended h → Shrunk (Tree h) → Shrunk (Tree (suc h))
 raised h d r = record {
-  tree = record {
-    id = d.node.id;
-    elems = cond d.swaps (set d.node.elems d.at r.old) d.node.elems;
-    kids = set d.node.kids d.child r.tree;
-  };
-  old = cond d.swaps (get_or d.node.elems d.at 0) r.old;
+  tree = record { id = d.node.id; elems = swapped_in d.swaps d.node.elems r.old; kids = set d.node.kids d.child r.tree };
+  old = given_back d.swaps d.node.elems r.old;
   free = r.free;
 }
 
 raised_is : (h : ℕ) (d : Descended h) (r : Shrunk (Tree h)) → ascend h d r ≡ raised h d r
 raised_is h d r = go d.swaps
   where
-    go : (b : Bool) → cond b (swapped h d.node d.at d.child r) (back h d.node d.child r) ≡ record {
-      tree = record {
-        id = d.node.id;
-        elems = cond b (set d.node.elems d.at r.old) d.node.elems;
-        kids = set d.node.kids d.child r.tree;
-      };
-      old = cond b (get_or d.node.elems d.at 0) r.old;
+    go : (o : Option ℕ) → up_by h o d.node d.child r ≡ record {
+      tree = record { id = d.node.id; elems = swapped_in o d.node.elems r.old; kids = set d.node.kids d.child r.tree };
+      old = given_back o d.node.elems r.old;
       free = r.free;
     }
-    go true = refl
-    go false = refl
+    go None = refl
+    go (Some c) = refl
 
 -- the child that the removal goes into
 abbrev pub goal : (h : ℕ) → Descended h → Tree h
@@ -73,7 +65,7 @@ pub record Descends (h : ℕ) (t : Tree (suc h)) (f : List ℕ) (d : Descended h
   pub child : d.child < length d.node.kids
   pub full : 16 ≤ length (goal h d).elems
   pub below : d.sub < size h (goal h d)
-  pub place : d.swaps ≡ true → d.at < length d.node.elems
+  pub place : (j : ℕ) → d.swaps ≡ Some j → j < length d.node.elems
   pub few : length d.free ≤ length f + 1
 
 -- a repair leaves the node's id, and frees one node at most
@@ -109,7 +101,7 @@ module _ (h : ℕ) (t : Tree (suc h)) (i : ℕ) (f : List ℕ) (F : Fit (suc h) 
     child = omega (arith, R.child, R.same.fit.one_more);
     full = R.full;
     below = omega (arith, R.from, R.upto);
-    place = λ e. absurd (true≢false (sym e));
+    place = λ j e. absurd cc;
     few = K.few;
   }
 
@@ -130,7 +122,7 @@ module _ (h : ℕ) (t : Tree (suc h)) (i : ℕ) (f : List ℕ) (F : Fit (suc h) 
     child = m;
     full = u;
     below = v;
-    place = λ e. l;
+    place = λ j e. (let q : c ≡ j = cc in omega arith);
     few = omega arith;
   }
 

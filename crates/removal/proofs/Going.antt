@@ -2,6 +2,7 @@
 use mathlib.Core.Path.{◌≡◌, refl, sym, ap, subst, ◌∙◌}
 use mathlib.Core.Bool.{Bool, true, false}
 use mathlib.Core.List.{List, ◌∷◌}
+use Rattle.std.specs.Prelude.{Some, None}
 use Prim.Native.Nat.{ℕ, suc, ◌+◌, ◌-◌, ◌^◌, ◌<◌}
 use native.Mathlib.Omega.{arith}
 use borrow.Author.Tests.{eqb-true, leb-true, leb-false}
@@ -12,7 +13,7 @@ use Rattle.model.specs.Tree.{Tree, kid, size, find, at_separator}
 use Rattle.model.specs.Remove.{is_thin, merge, fill, way_for}
 use Rattle.model.proofs.Nodes.{size_least}
 use Rattle.model.proofs.Find.{Step}
-use Rattle.pool.specs.Parts.{Inside as InPool, kid_at}
+use Rattle.pool.specs.Parts.{kid_at}
 use Rattle.tree.specs.declared.Turn.{Turn}
 use Rattle.tree.specs.Lookup.{Above, Turns}
 use Rattle.tree.specs.Stands.{Owns, Reshaped}
@@ -80,14 +81,13 @@ module _ {w : List ℕ} {id index : ℕ} (s : DownReady w id index) where
       sub-fits = omega (arith, T.sub, W.index, M.ahead, s.ready.below, O.small)
 
       pub went_inside : u.separator ≡ false
-          → Went w w₁ h t f (descend h t index f) (record { id = r.id; index = u.sub + r.ahead; swaps = false; at = 0; freed = r.freed })
+          → Went w w₁ h t f (descend h t index f) (record { id = r.id; index = u.sub + r.ahead; swaps = None; freed = r.freed })
       unfolding way_for down_by
       went_inside apart =
           by Inside (rw (sym T.separator ∙ apart) refl) (record {
             id = M.id;
             index = omega (arith, T.sub, W.index, M.ahead);
             swaps = refl;
-            at = refl;
             freed = M.freed;
             reshaped = M.reshaped;
           })
@@ -110,8 +110,8 @@ module _ {w : List ℕ} {id index : ℕ} (s : DownReady w id index) where
       pub next_kid : FillReady w id (u.child + 1)
       next_kid = kid_ready (u.child + 1) next_place
 
-      pub next_has : InPool w id × (u.child + 1 < 32)
-      next_has = kid_readable O s.ready.here next_place
+      pub next_few : u.child + 1 < 32
+      next_few = (kid_readable O s.ready.here next_place).1
 
       -- what the tests say of the two children
       left_thin : {b : Bool} → ThinIs w id u.child b → is_thin h (kid h t c) ≡ b
@@ -128,14 +128,13 @@ module _ {w : List ℕ} {id index : ℕ} (s : DownReady w id index) where
           omega (arith, T.sub, end, size_least h (kid h t c), leb-false (length (kid h t c).elems) 15 (left_thin e))
 
       pub went_last : ThinIs w id u.child false
-          → Went w w h t f (descend h t index f) (record { id = u.id; index = u.sub - 1; swaps = true; at = u.child; freed = 0 })
+          → Went w w h t f (descend h t index f) (record { id = u.id; index = u.sub - 1; swaps = Some u.child; freed = 0 })
       unfolding way_for down_by
       went_last e =
           by ByLast (rw (sep, left_thin e) refl) (record {
             id = T.id;
             index = ap (λ (n : ℕ). n - 1) (T.sub ∙ end);
-            swaps = refl;
-            at = T.child;
+            swaps = ap Some T.child;
             freed = omega arith;
             reshaped = reshaped_none O;
           })
@@ -143,14 +142,13 @@ module _ {w : List ℕ} {id index : ℕ} (s : DownReady w id index) where
       module _ (e : ThinIs w id u.child true) where
         pub went_first : ThinIs w id (u.child + 1) false
             → (k : ℕ) → k ≡ kid_at w id (u.child + 1)
-            → Went w w h t f (descend h t index f) (record { id = k; index = 0; swaps = true; at = u.child; freed = 0 })
+            → Went w w h t f (descend h t index f) (record { id = k; index = 0; swaps = Some u.child; freed = 0 })
         unfolding way_for down_by next_kid kid_ready
         went_first g k ek =
             by ByFirst (rw (sep, left_thin e, right_thin g) refl) (record {
               id = subst (λ (d : ℕ). k ≡ (kid h t (d + 1)).id) T.child (sym (child_is O s.ready.here next_place k ek));
               index = refl;
-              swaps = refl;
-              at = T.child;
+              swaps = ap Some T.child;
               freed = omega arith;
               reshaped = reshaped_none O;
             })
@@ -174,7 +172,7 @@ module _ {w : List ℕ} {id index : ℕ} (s : DownReady w id index) where
 
           pub went_merged : (w₁ : List ℕ) → ((q : PairReady Few w id u.child) → Reshaped w w₁ (suc q.height) q.tree q.free
               (merge q.height q.tree u.child) ((kid q.height q.tree (u.child + 1)).id ∷ q.free))
-              → Went w w₁ h t f (descend h t index f) (record { id = u.id; index = u.sub; swaps = false; at = 0; freed = 1 })
+              → Went w w₁ h t f (descend h t index f) (record { id = u.id; index = u.sub; swaps = None; freed = 1 })
           unfolding way_for down_by merge_ready
           went_merged w₁ done =
               let S = merge-stays h t c (omega (arith, place, O.fit.one_more)) in
@@ -182,7 +180,6 @@ module _ {w : List ℕ} {id index : ℕ} (s : DownReady w id index) where
                 id = T.id ∙ sym S.id;
                 index = omega (arith, T.sub, W.index, S.start);
                 swaps = refl;
-                at = refl;
                 freed = omega arith;
                 reshaped = subst (λ (d : ℕ). Reshaped w w₁ (suc h) t f (merge h t d) ((kid h t (d + 1)).id ∷ f)) T.child (done merge_ready);
               })

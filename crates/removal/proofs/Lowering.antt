@@ -13,7 +13,7 @@ use Rattle.model.specs.Remove.{Shrunk, remove, lowered, bag_remove}
 use Rattle.model.proofs.Nodes.{node, held_id, kids_held, flat-length}
 use Rattle.model.proofs.Remove.{Removed, remove_law}
 use Rattle.pool.specs.Layout.{root_id}
-use Rattle.pool.specs.Parts.{Inside, ChainAt, count_at, kid_at}
+use Rattle.pool.specs.Parts.{ChainAt, count_at, kid_at}
 use Rattle.pool.specs.Frame.{Untouched}
 use Rattle.chain.specs.Chain.{Gave}
 use Rattle.pool.proofs.Node.{at_count, at_kid}
@@ -65,9 +65,6 @@ module _ {w : List ℕ} {known : Known} (s : LowerReady w known) where
 
   abbrev f : List ℕ
   f = s.free
-
-  pub root_inside : Inside w known.root
-  root_inside = subst (Inside w) s.here s.owns.at.here.inside
 
   elements : count_at w known.root ≡ length t.elems
   elements = ap (count_at w) (sym s.here) ∙ at_count w h t s.owns.at.here

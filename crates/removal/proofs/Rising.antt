@@ -1,6 +1,6 @@
 -- The way up through a node after the removal below it, and all levels together.
 use mathlib.Core.Path.{◌≡◌, refl, sym, ap, subst, ◌∙◌}
-use mathlib.Core.Bool.{Bool, true, false, cond}
+use Rattle.std.specs.Prelude.{Option, Some, None}
 use mathlib.Core.List.{List}
 use mathlib.Core.Logic.{◌≢◌}
 use Prim.Native.Nat.{ℕ, zero, suc, ◌+◌, ◌-◌, ◌≤◌, ◌<◌}
@@ -25,28 +25,23 @@ use Rattle.tree.specs.Stands.{Owns}
 use Rattle.tree.proofs.Standing.{length_word}
 use Rattle.tree.proofs.Edits.{node_untouched, root_reshaped, owns_kid, root_apart, kid_reshaped, owns_after, reshaped_both}
 use Rattle.pieces.specs.declared.Piece.{Piece}
+use Rattle.pieces.specs.declared.Spot.{Spot}
 use Rattle.pieces.specs.Pieces.{Takes, TookOut}
 use Rattle.repair.proofs.Ends.{seats, In, seated, leaf-block}
 use Rattle.repair.proofs.Moves.{root_is}
 use Rattle.removal.specs.declared.Descent.{Descent}
 use Rattle.removal.specs.declared.Cut.{Cut}
 use Rattle.removal.specs.Ready.{RemoveReady, Removes}
-use Rattle.removal.specs.Down.{Descended, descend, DownReady, Went, UpReady, Up}
+use Rattle.removal.specs.Down.{Descended, descend, swapped_in, given_back, DownReady, Went, UpReady, Up}
 use Rattle.removal.proofs.Descending.{raised, goal, remove_raised, Descends, descends, remove_id, remove_few}
 
-taken : {A : Type 0} (x y : A) (b : Bool) → b ≡ true → x ≡ cond b x y
-taken x y b e = rw e refl
-
-left : {A : Type 0} (x y : A) (b : Bool) → b ≡ false → y ≡ cond b x y
-left x y b e = rw e refl
-
-length-cond : (b : Bool) (es : List ℕ) (i x : ℕ) → length (cond b (set es i x) es) ≡ length es
-length-cond true es i x = length-set es i x
-length-cond false es i x = refl
+length-swapped : (o : Option ℕ) (es : List ℕ) (x : ℕ) → length (swapped_in o es x) ≡ length es
+length-swapped None es x = refl
+length-swapped (Some c) es x = length-set es c x
 
 -- ---- `come_up`
 
-module _ {w : List ℕ} {id : ℕ} {d : Descent} (s : UpReady w id d) (a : ℕ) (ea : a ≡ start id) where
+module _ {w : List ℕ} {id : ℕ} {o : Option ℕ} (s : UpReady w id o) (a : ℕ) (ea : a ≡ start id) where
   abbrev m : Node w id
   m = s.node
 
@@ -67,14 +62,18 @@ module _ {w : List ℕ} {id : ℕ} {d : Descent} (s : UpReady w id d) (a : ℕ) 
   unfolding node_block
   one = rw (length_word m a ea, ea, set-block w id m.stored.inside 1 (m.size - 1) (omega arith), m.stored.is) refl
 
-  pub up_plain : d.swaps ≡ false → (x : ℕ) → Up w fewer id d x m x
-  up_plain e x = record {
-    given = left (get_or m.elems d.at 0) x d.swaps e;
-    words = one ∙ ap (λ (es : List ℕ). with_block w id (less es)) (left (set m.elems d.at x) m.elems d.swaps e);
+  up : {w₂ : List ℕ} {q : Option ℕ} {x r : ℕ} → r ≡ given_back q m.elems x
+      → w₂ ≡ with_block w id (less (swapped_in q m.elems x)) → o ≡ q → Up w w₂ id o x m r
+  up {x = x} g ws e = record {
+    given = g ∙ ap (λ (p : Option ℕ). given_back p m.elems x) (sym e);
+    words = ws ∙ ap (λ (p : Option ℕ). with_block w id (less (swapped_in p m.elems x))) (sym e);
   }
 
-  pub up_place : d.swaps ≡ true → HasElement fewer id d.at
-  up_place e = record {
+  pub up_plain : o ≡ None → (x : ℕ) → Up w fewer id o x m x
+  up_plain e x = up refl one e
+
+  pub up_place : (c : ℕ) → o ≡ Some c → HasElement fewer id c
+  up_place c e = record {
     node = record {
       size = m.size - 1;
       elems = m.elems;
@@ -83,33 +82,35 @@ module _ {w : List ℕ} {id : ℕ} {d : Descent} (s : UpReady w id d) (a : ℕ) 
       few_elems = m.few_elems;
       few_kids = m.few_kids;
     };
-    below = s.place e;
+    below = s.place c e;
   }
 
-  pub up_swapped : (e : d.swaps ≡ true) (x old : ℕ) (w₂ : List ℕ)
-      → ((q : HasElement fewer id d.at) → Swapped fewer w₂ id d.at x q.node old) → Up w w₂ id d x m old
+  pub up_swapped : (c : ℕ) (e : o ≡ Some c) (x old : ℕ) (w₂ : List ℕ)
+      → ((q : HasElement fewer id c) → Swapped fewer w₂ id c x q.node old) → Up w w₂ id o x m old
   unfolding up_place
-  up_swapped e x old w₂ f =
-      let q = f (up_place e) in
-      let es : List ℕ = set m.elems d.at x in
-      record {
-        given = q.given ∙ taken (get_or m.elems d.at 0) x d.swaps e;
-        words = q.words ∙ ap (λ (u : List ℕ). with_block u id (less es)) one
-            ∙ with_block_again w id (less m.elems) (long m.elems refl) (less es) (long es (length-set m.elems d.at x))
-            ∙ ap (λ (z : List ℕ). with_block w id (less z)) (taken es m.elems d.swaps e);
-      }
+  up_swapped c e x old w₂ f =
+      let q = f (up_place c e) in
+      let es : List ℕ = set m.elems c x in
+      up q.given
+      (q.words ∙ ap (λ (u : List ℕ). with_block u id (less es)) one
+      ∙ with_block_again w id (less m.elems) (long m.elems refl) (less es) (long es (length-set m.elems c x)))
+      e
 
 -- ---- a leaf
+
+-- an element of it, and the child slot with the same number
+abbrev pub leaf_spot : ℕ → ℕ → Spot
+leaf_spot id index = record { node = id; elem = index; kid = index }
 
 module _ {w : List ℕ} {id index : ℕ} (q : RemoveReady w 0 id index) where
   leaf_in : In w 0 q.tree id
   leaf_in = record { id = q.here; at = q.owns.at; fit = q.owns.fit }
 
-  leaf-take : Takes w id index index 1
+  leaf-take : Takes w (leaf_spot id index) 1
   unfolding size
   leaf-take = record { seated = seated leaf_in; elem = q.below; kid = omega (arith, q.below); less = q.some }
 
-  leaf_cut : (p : Piece) (w₁ : List ℕ) → ((s : Takes w id index index 1) → TookOut w w₁ id index index 1 s.seated.node p)
+  leaf_cut : (p : Piece) (w₁ : List ℕ) → ((s : Takes w (leaf_spot id index) 1) → TookOut w w₁ (leaf_spot id index) 1 s.seated.node p)
       → Removes w w₁ 0 q.tree q.free (remove 0 q.tree index q.free) (record { old = p.elem; freed = 0 })
   unfolding leaf-take size remove ids
   leaf_cut p w₁ took =
@@ -187,11 +188,11 @@ module _ {w : List ℕ} {h id index : ℕ} (q : RemoveReady w (suc h) id index) 
     abbrev top : Node w₁ id
     top = (seated (record { id = here; at = O.at; fit = O.fit })).node
 
-    up_ready : UpReady w₂ id r
+    up_ready : UpReady w₂ id r.swaps
     up_ready = record {
       node = node_untouched C.reshaped.untouched (root_apart O D.child L.child id here) top;
       some = omega (arith, L.same.sized, q.below);
-      place = λ e. omega (arith, M.at, L.place (sym M.swaps ∙ e));
+      place = λ c e. omega (arith, L.place c (sym M.swaps ∙ e));
     }
 
     freed_few : r.freed + b.freed ≤ suc h
@@ -211,7 +212,7 @@ module _ {w : List ℕ} {h id index : ℕ} (q : RemoveReady w (suc h) id index) 
     shorter : size (suc h) s + 1 ≡ size (suc h) D.node
     unfolding s size sum
     shorter =
-        let e = length-cond D.swaps D.node.elems D.at R.old in
+        let e = length-swapped D.swaps D.node.elems R.old in
         let k : size h R.tree + 1 ≡ size h K =
         omega (
           arith,
@@ -222,27 +223,26 @@ module _ {w : List ℕ} {h id index : ℕ} (q : RemoveReady w (suc h) id index) 
         ) in
         omega (arith, e, k, total_set (size h) D.node.kids D.child (none h) R.tree L.child)
 
-    removed : (old : ℕ) (w₃ : List ℕ) → ((u : UpReady w₂ id r) → Up w₂ w₃ id r b.old u.node old)
+    removed : (old : ℕ) (w₃ : List ℕ) → ((u : UpReady w₂ id r.swaps) → Up w₂ w₃ id r.swaps b.old u.node old)
         → Removes w w₃ (suc h) t f (remove (suc h) t index f) (record { old = old; freed = r.freed + b.freed })
     unfolding up_ready s seats
     removed old w₃ up =
         let P = up up_ready in
         let X : List ℕ = root_block (suc h) s in
         let one_less : size (suc h) D.node - 1 ≡ size (suc h) s = omega (arith, shorter) in
-        let is : node_block (size (suc h) D.node - 1) (cond r.swaps (set D.node.elems r.at b.old) D.node.elems)
+        let is : node_block (size (suc h) D.node - 1) (swapped_in r.swaps D.node.elems b.old)
         (seats (suc h) D.node) ≡ X =
         rw (
           root_is h s,
           one_less,
           M.swaps,
-          M.at,
           C.old,
           map-set_same (id_of h) D.node.kids D.child R.tree (none h) (remove_id h K D.sub D.free KF KS L.below),
         ) refl in
         let F : Fit (suc h) s = rw (remove_raised h t index f) at (remove_law (suc h) t index f q.owns.fit q.some q.below).fit in
         let W = wrote_same here refl (wrote (P.words ∙ ap (with_block w₂ id) is) up_ready.node.stored.inside (length-root_block (suc h) s F)) in
         rw (remove_raised h t index f) (record {
-          old = P.given ∙ rw (M.swaps, M.at, C.old) refl;
+          old = P.given ∙ rw (M.swaps, C.old) refl;
           freed = omega (arith, M.freed, C.freed);
           reshaped = reshaped_both M.reshaped L.same.nodes (kid_reshaped O D.child L.child s.elems C.reshaped law.nodes W);
         })
@@ -259,12 +259,12 @@ CutOut w w' levels id index b =
     (s : RemoveReady w levels id index) → Removes w w' levels s.tree s.free (remove levels s.tree index s.free) b
 
 module _ {w : List ℕ} {id index : ℕ} where
-  pub at_leaf : (levels : ℕ) → levels ≡ 0 → RemoveReady w levels id index → Takes w id index index 1
+  pub at_leaf : (levels : ℕ) → levels ≡ 0 → RemoveReady w levels id index → Takes w (leaf_spot id index) 1
   at_leaf zero e q = leaf-take q
   at_leaf (suc h) e q = absurd (omega arith)
 
   pub cut_leaf : (levels : ℕ) → levels ≡ 0 → (p : Piece) (w₁ : List ℕ) →
-      ((s : Takes w id index index 1) → TookOut w w₁ id index index 1 s.seated.node p)
+      ((s : Takes w (leaf_spot id index) 1) → TookOut w w₁ (leaf_spot id index) 1 s.seated.node p)
       → CutOut w w₁ levels id index (record { old = p.elem; freed = 0 })
   cut_leaf zero e p w₁ took q = leaf_cut q p w₁ took
   cut_leaf (suc h) e p w₁ took q = absurd (omega arith)
@@ -282,7 +282,7 @@ module _ {w : List ℕ} {id index : ℕ} where
 
     -- the way up can be gone, the sum fits, and then all is done
     pub record Back (levels : ℕ) (b : Cut) (w₂ : List ℕ) : Type 0 where
-      pub ready : UpReady w₂ id r
+      pub ready : UpReady w₂ id r.swaps
       pub few : r.freed + b.freed ≤ levels
 
     pub to_rise : (levels l : ℕ) → levels ≡ suc l → (b : Cut) (w₂ : List ℕ) → CutOut w₁ w₂ l r.id r.index b
@@ -295,7 +295,7 @@ module _ {w : List ℕ} {id index : ℕ} where
         record { ready = up_ready q r w₁ went b w₂ c; few = freed_few q r w₁ went b w₂ c }
 
     pub cut_below : (levels l : ℕ) → levels ≡ suc l → (b : Cut) (w₂ : List ℕ) → CutOut w₁ w₂ l r.id r.index b
-        → (old : ℕ) (w₃ : List ℕ) → ((u : UpReady w₂ id r) → Up w₂ w₃ id r b.old u.node old)
+        → (old : ℕ) (w₃ : List ℕ) → ((u : UpReady w₂ id r.swaps) → Up w₂ w₃ id r.swaps b.old u.node old)
         → CutOut w w₃ levels id index (record { old = old; freed = r.freed + b.freed })
     cut_below zero l e b w₂ cut old w₃ up q = absurd (omega arith)
     cut_below (suc h) l e b w₂ cut old w₃ up q =

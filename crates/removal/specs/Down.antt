@@ -1,5 +1,5 @@
 -- One level of a removal in two parts: the way down, until the removal goes below a node, and the way up again.
-use Rattle.std.specs.Prelude.{◌≡◌, Bool, true, false, cond, List, ◌∷◌, ℕ, suc, ◌+◌, ◌-◌, ◌<◌, length, get_or, set}
+use Rattle.std.specs.Prelude.{◌≡◌, Option, Some, None, List, ◌∷◌, ℕ, suc, ◌+◌, ◌-◌, ◌<◌, length, get_or, set}
 use Rattle.model.specs.Tree.{Tree, kid, size, find, before}
 use Rattle.model.specs.Remove.{merge, Filled, fill, Shrunk, back, swapped, way_for}
 use Rattle.model.specs.declared.Way.{Way}
@@ -12,22 +12,21 @@ use Rattle.removal.specs.Ready.{RemoveReady}
 
 -- ---- the model's step, cut in two
 
--- the node when the removal goes below it, the child and the index in it, and whether what is removed there takes the
--- place of separator `at`
+-- the node when the removal goes below it, the child and the index in it, and the separator, if any, whose place what is
+-- removed there takes
 pub record Descended (h : ℕ) : Type 0 where
   pub node : Tree (suc h)
   pub child : ℕ
   pub sub : ℕ
-  pub swaps : Bool
-  pub at : ℕ
+  pub swaps : Option ℕ
   pub free : List ℕ
 
 abbrev pub entered : (h : ℕ) → Filled h → ℕ → Descended h
 entered h s i =
-    record { node = s.node; child = s.child; sub = i - before h s.node s.child; swaps = false; at = 0; free = s.free }
+    record { node = s.node; child = s.child; sub = i - before h s.node s.child; swaps = None; free = s.free }
 
 abbrev pub beside : (h : ℕ) → Tree (suc h) → ℕ → ℕ → ℕ → List ℕ → Descended h
-beside h t d j c f = record { node = t; child = d; sub = j; swaps = true; at = c; free = f }
+beside h t d j c f = record { node = t; child = d; sub = j; swaps = Some c; free = f }
 
 unfoldable pub down_by : (h : ℕ) → Way → Tree (suc h) → ℕ → ℕ → List ℕ → Descended h
 unfolding fill merge before size
@@ -41,8 +40,21 @@ unfolding down_by way_for
 descend h t i f = down_by h (way_for h t i) t (find h t i).child i f
 
 -- the whole step, from what was removed below
+abbrev pub up_by : (h : ℕ) → Option ℕ → Tree (suc h) → ℕ → Shrunk (Tree h) → Shrunk (Tree (suc h))
+up_by h None t d r = back h t d r
+up_by h (Some c) t d r = swapped h t c d r
+
 abbrev pub ascend : (h : ℕ) → Descended h → Shrunk (Tree h) → Shrunk (Tree (suc h))
-ascend h d r = cond d.swaps (swapped h d.node d.at d.child r) (back h d.node d.child r)
+ascend h d r = up_by h d.swaps d.node d.child r
+
+-- the elements when x has taken the place of a separator, if of any, and what is given back: that separator, or else x
+abbrev pub swapped_in : Option ℕ → List ℕ → ℕ → List ℕ
+swapped_in None es x = es
+swapped_in (Some c) es x = set es c x
+
+abbrev pub given_back : Option ℕ → List ℕ → ℕ → ℕ
+given_back None es x = x
+given_back (Some c) es x = get_or es c 0
 
 -- ---- the two parts in the pool
 
@@ -54,16 +66,15 @@ pub record Went (w w' : List ℕ) (h : ℕ) (t : Tree (suc h)) (f : List ℕ) (d
   pub id : r.id ≡ (kid h d.node d.child).id
   pub index : r.index ≡ d.sub
   pub swaps : r.swaps ≡ d.swaps
-  pub at : r.at ≡ d.at
   pub freed : length f + r.freed ≡ length d.free
   pub reshaped : Reshaped w w' (suc h) t f d.node d.free
 
 -- one element below node id is gone
-pub record UpReady (w : List ℕ) (id : ℕ) (d : Descent) : Type 0 where
+pub record UpReady (w : List ℕ) (id : ℕ) (swaps : Option ℕ) : Type 0 where
   pub node : Node w id
   pub some : 0 < node.size
-  pub place : d.swaps ≡ true → d.at < length node.elems
+  pub place : (c : ℕ) → swaps ≡ Some c → c < length node.elems
 
-pub record Up (w w' : List ℕ) (id : ℕ) (d : Descent) (x : ℕ) (m : Node w id) (r : ℕ) : Type 0 where
-  pub given : r ≡ cond d.swaps (get_or m.elems d.at 0) x
-  pub words : w' ≡ with_block w id (node_block (m.size - 1) (cond d.swaps (set m.elems d.at x) m.elems) m.kids)
+pub record Up (w w' : List ℕ) (id : ℕ) (swaps : Option ℕ) (x : ℕ) (m : Node w id) (r : ℕ) : Type 0 where
+  pub given : r ≡ given_back swaps m.elems x
+  pub words : w' ≡ with_block w id (node_block (m.size - 1) (swapped_in swaps m.elems x) m.kids)

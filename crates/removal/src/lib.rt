@@ -7,6 +7,7 @@ ghost use Rattle.tree.specs.Stands.{Became};
 ghost use Rattle.removal.specs.Ready.{RemoveReady, Removes, LowerReady, BagHas, BagRemoves};
 ghost use Rattle.removal.specs.Down.{descend, DownReady, Went, UpReady, Up};
 
+use pieces::Spot;
 use pool::LENGTH;
 use tree::Known;
 
@@ -24,14 +25,13 @@ pub struct Taken {
     pub known: Known,
 }
 
-// Where a removal goes on below a node: the child, the index in it, whether what is removed there takes the place of the
-// separator `at`, and how many nodes were freed on the way.
+// Where a removal goes on below a node: the child, the index in it, the separator, if any, whose place what is removed there takes,
+// and how many nodes were freed on the way.
 #[derive(Clone, Copy)]
 pub struct Descent {
     pub id: usize,
     pub index: usize,
-    pub swaps: bool,
-    pub at: usize,
+    pub swaps: Option<usize>,
     pub freed: usize,
 }
 
@@ -47,54 +47,49 @@ fn go_down(pool: &mut [u64], id: usize, index: usize) -> Descent
     let c = t.child;
     if !t.separator {
         let f = repair::fill(pool, id, c);
-        return Descent {
+        Descent {
             id: f.id,
             index: t.sub + f.ahead,
-            swaps: false,
-            at: 0,
+            swaps: None,
             freed: f.freed,
-        };
-    }
-    if !repair::is_thin(pool, id, c) {
-        return Descent {
+        }
+    } else if !repair::is_thin(pool, id, c) {
+        Descent {
             id: t.id,
             index: t.sub - 1,
-            swaps: true,
-            at: c,
+            swaps: Some(c),
             freed: 0,
-        };
-    }
-    if !repair::is_thin(pool, id, c + 1) {
+        }
+    } else if !repair::is_thin(pool, id, c + 1) {
         let k = pool::kid_at(pool, id, c + 1);
-        return Descent {
+        Descent {
             id: k,
             index: 0,
-            swaps: true,
-            at: c,
+            swaps: Some(c),
             freed: 0,
-        };
-    }
-    repair::merge(pool, id, c);
-    Descent {
-        id: t.id,
-        index: t.sub,
-        swaps: false,
-        at: 0,
-        freed: 1,
+        }
+    } else {
+        repair::merge(pool, id, c);
+        Descent {
+            id: t.id,
+            index: t.sub,
+            swaps: None,
+            freed: 1,
+        }
     }
 }
 
 // One element below node id is gone: x, or x takes the place of a separator, which is then given back.
-fn come_up(pool: &mut [u64], id: usize, d: Descent, x: u64) -> u64
-    requires { UpReady pool.old id d }
-    ensures { (s : UpReady pool.old id d) → Up pool.old pool.new id d x s.node result }
+fn come_up(pool: &mut [u64], id: usize, swaps: Option<usize>, x: u64) -> u64
+    requires { UpReady pool.old id swaps }
+    ensures { (s : UpReady pool.old id swaps) → Up pool.old pool.new id swaps x s.node result }
 {
     let a = pool::start_of(id);
-    pool[a + LENGTH] = pool[a + LENGTH] - 1;
-    if d.swaps {
-        return tree::swap_element(pool, id, d.at, x);
+    pool[a + LENGTH] -= 1;
+    match swaps {
+        Some(c) => tree::swap_element(pool, id, c, x),
+        None => x,
     }
-    x
 }
 
 // Takes the element at an index out of the tree at node id.
@@ -104,7 +99,12 @@ pub fn remove(pool: &mut [u64], id: usize, levels: usize, index: usize) -> Cut
         levels s.tree s.free (remove levels s.tree index s.free) result }
 {
     if levels == 0 {
-        let p = pieces::take_out(pool, id, index, index, 1);
+        let from = Spot {
+            node: id,
+            elem: index,
+            kid: index,
+        };
+        let p = pieces::take_out(pool, from, 1);
         return Cut {
             old: p.elem,
             freed: 0,
@@ -112,7 +112,7 @@ pub fn remove(pool: &mut [u64], id: usize, levels: usize, index: usize) -> Cut
     }
     let d = go_down(pool, id, index);
     let below = remove(pool, d.id, levels - 1, d.index);
-    let old = come_up(pool, id, d, below.old);
+    let old = come_up(pool, id, d.swaps, below.old);
     Cut {
         old,
         freed: d.freed + below.freed,
@@ -132,16 +132,17 @@ fn lower(pool: &mut [u64], known: Known) -> Known
     chain::give_node(pool, known.root);
     let free = known.free + 1;
     if known.levels == 0 {
-        return Known {
+        Known {
             root: 0,
             levels: 0,
             free,
-        };
-    }
-    Known {
-        root: k,
-        levels: known.levels - 1,
-        free,
+        }
+    } else {
+        Known {
+            root: k,
+            levels: known.levels - 1,
+            free,
+        }
     }
 }
 
@@ -151,11 +152,9 @@ pub fn remove_index(pool: &mut [u64], known: Known, index: usize) -> Taken
     ensures { (s : BagHas pool.old known index) → BagRemoves pool.old pool.new s.bag index result }
 {
     let c = remove(pool, known.root, known.levels, index);
-    let free = known.free + c.freed;
     let left = Known {
-        root: known.root,
-        levels: known.levels,
-        free,
+        free: known.free + c.freed,
+        ..known
     };
     Taken {
         old: c.old,

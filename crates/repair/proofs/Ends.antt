@@ -7,10 +7,10 @@ use native.Mathlib.Numerals.{add-one}
 use native.Mathlib.Omega.{arith}
 use lib.ListN.{length, take, drop, get_or, replicate, length-append, length-drop, length-map, length-replicate, get_or-replicate, get_or-map}
 use lib.ListN.{take-append-drop, drop_of_length-le, replicate-append-replicate}
-use lib.Seq.{take-length, drop-length, drop-cons}
+use lib.Seq.{take-suc, drop-cons}
 use Rattle.lists.specs.Lists.{sum, insert_at, remove_at, but_last}
 use Rattle.lists.proofs.Sums.{total, total_append}
-use Rattle.lists.proofs.Edits.{length-insert_at, length-remove_at, map-remove_at}
+use Rattle.lists.proofs.Edits.{length-insert_at, length-remove_at, insert_at_end, map-remove_at}
 use Rattle.model.specs.Tree.{Tree, Below, kid, none, size}
 use Rattle.model.specs.Fit.{Fit}
 use Rattle.model.specs.Remove.{joined, gave_last, took_front, gave_first, took_back}
@@ -21,7 +21,7 @@ use Rattle.pool.proofs.Node.{at_length}
 use Rattle.pieces.specs.Pieces.{Seated, length_or}
 use Rattle.pieces.proofs.Pieces.{some_node}
 
--- ---- lists: the last element out, one more in at the end, and the element at an end by itself
+-- ---- lists: the last element out, and by itself
 
 module _ {A : Type 0} where
   last_out : (xs : List A) (m : ℕ) → length xs ≡ suc m → but_last xs ≡ remove_at xs m
@@ -30,18 +30,10 @@ module _ {A : Type 0} where
       let n : length xs - 1 ≡ m = omega arith in
       rw (n, drop_of_length-le xs {i = suc m} (omega arith), append-nil)
 
-  end_in : (xs : List A) (x : A) → insert_at xs (length xs) x ≡ xs ++ (x ∷ [])
-  unfolding insert_at
-  end_in xs x = rw (take-length xs, drop-length xs)
-
   last_one : (xs : List A) (m : ℕ) (d : A) → length xs ≡ suc m → drop (length xs - 1) xs ≡ get_or xs m d ∷ []
   last_one xs m d e =
       let n : length xs - 1 ≡ m = omega arith in
       rw (n, drop-cons xs m d (omega arith), drop_of_length-le xs {i = suc m} (omega arith))
-
-  first_one : (xs : List A) (d : A) → 0 < length xs → take 1 xs ≡ get_or xs 0 d ∷ []
-  first_one [] d l = absurd (omega arith)
-  first_one (x ∷ xs) d l = refl
 
 -- zeros without one, and with one more
 zeros_out : (n j : ℕ) → j ≤ n → remove_at (replicate {A = ℕ} (suc n) 0) j ≡ replicate n 0
@@ -157,7 +149,7 @@ module _ {w : List ℕ} where
   unfolding seats sizes length_or sum
   first_length zero t A F = refl
   first_length (suc h) t A F =
-      rw (first_one t.kids (none h) (omega (arith, F.one_more))) (omega (arith, slot_length h t A 0 (omega (arith, F.one_more))))
+      rw (take-suc t.kids 0 (none h) (omega (arith, F.one_more))) (omega (arith, slot_length h t A 0 (omega (arith, F.one_more))))
 
 -- ---- two nodes joined
 
@@ -280,9 +272,9 @@ back_seats (suc h) a e b A F =
     let k : length a.elems + 1 ≡ length (map (id_of h) a.kids) = omega (arith, length-map a.kids (id_of h), A.one_more) in
     rw (
       k,
-      end_in (map (id_of h) a.kids) (get_or (map (id_of h) b.kids) 0 0),
+      insert_at_end (map (id_of h) a.kids) (get_or (map (id_of h) b.kids) 0 0),
       slot_is h b 0,
-      first_one b.kids (none h) (omega (arith, F.one_more)),
+      take-suc b.kids 0 (none h) (omega (arith, F.one_more)),
     )
     (map-append (id_of h) a.kids (kid h b 0 ∷ []))
 
@@ -306,4 +298,4 @@ module _ {w : List ℕ} {h : ℕ} {b : Tree h} {k : ℕ} (B : In w h b k) (l : 0
       (insert_at (seats h a) (length a.elems + 1) (get_or (seats h b) 0 0))
   back_taken a e A r =
       takes h a (took_back a e b) (length a.elems) (length a.elems + 1) e (get_or (seats h b) 0 0) n₀ r (omega arith)
-      (sym (end_in a.elems e)) (back_seats h a e b A B.fit) (omega (arith, is₀, sizes_append h a.kids (take 1 b.kids)))
+      (sym (insert_at_end a.elems e)) (back_seats h a e b A B.fit) (omega (arith, is₀, sizes_append h a.kids (take 1 b.kids)))

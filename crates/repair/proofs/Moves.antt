@@ -20,7 +20,7 @@ use Rattle.pool.proofs.Blocks.{length-node_block, length-root_block}
 use Rattle.tree.specs.Stands.{Owns, Reshaped}
 use Rattle.tree.proofs.Edits.{KidAt, tree_at_lem}
 use Rattle.pieces.specs.declared.Piece.{Piece}
-use Rattle.pieces.specs.declared.End.{End}
+use Rattle.pieces.specs.declared.Spot.{Spot}
 use Rattle.repair.specs.Ready.{PairReady, Few, LeftLends, RightLends}
 use Rattle.pieces.specs.Pieces.{Takes, TookOut, Joins, length_or, Lends, Lent}
 use Rattle.repair.proofs.Ends.{seats, seats_length, In, seated, slot_inside, leaf-slots, join_block}
@@ -54,7 +54,11 @@ module _ {w : List ℕ} {id c : ℕ} (s : PairReady Few w id c) (l : ℕ) (hl : 
   abbrev B : Tree h
   B = kid h t (c + 1)
 
-  pub merge-take : Takes w id c (c + 1) 0
+  -- the separator, and the child behind it
+  abbrev pub pair_spot : Spot
+  pair_spot = record { node = id; elem = c; kid = c + 1 }
+
+  pub merge-take : Takes w pair_spot 0
   merge-take = record {
     seated = seated (record { id = s.here; at = O.at; fit = O.fit });
     elem = s.place;
@@ -62,7 +66,7 @@ module _ {w : List ℕ} {id c : ℕ} (s : PairReady Few w id c) (l : ℕ) (hl : 
     less = omega arith;
   }
 
-  module _ (p : Piece) (w₁ : List ℕ) (took : (q : Takes w id c (c + 1) 0) → TookOut w w₁ id c (c + 1) 0 q.seated.node p) where
+  module _ (p : Piece) (w₁ : List ℕ) (took : (q : Takes w pair_spot 0) → TookOut w w₁ pair_spot 0 q.seated.node p) where
     Q : Pair w h t s.free c id l p.kid
     unfolding merge-take seats
     Q = record {
@@ -175,20 +179,20 @@ module _ {P : ℕ → ℕ → Type 0} {w : List ℕ} {id c : ℕ} (s : PairReady
   pair = record { owns = s.owns; place = s.place; top = s.here; left = pair_is s c (omega arith) l hl; right = pair_is s (c + 1) (omega arith) r hr }
 
 -- the ends, where the left child has m elements
-abbrev last_of : ℕ → ℕ → End
+abbrev last_of : ℕ → ℕ → Spot
 last_of l m = record { node = l; elem = m - 1; kid = m }
 
-abbrev back_of : ℕ → ℕ → End
+abbrev back_of : ℕ → ℕ → Spot
 back_of l m = record { node = l; elem = m; kid = m + 1 }
 
-abbrev front_of : ℕ → End
+abbrev front_of : ℕ → Spot
 front_of r = record { node = r; elem = 0; kid = 0 }
 
 module _ {w : List ℕ} {id c : ℕ} (l r m : ℕ)
     (hl : l ≡ kid_at w id c)
-    (hr : r ≡ kid_at w id (c + 1)) (em : m ≡ count_at w l) where
+    (hr : r ≡ kid_at w id (c + 1)) (em : m ≡ count_at w l) (from to : Spot) where
   -- the left child lends
-  module _ (s : PairReady LeftLends w id c) where
+  module _ (ef : from ≡ last_of l m) (et : to ≡ front_of r) (s : PairReady LeftLends w id c) where
     abbrev h_l : ℕ
     h_l = s.height
 
@@ -210,16 +214,15 @@ module _ {w : List ℕ} {id c : ℕ} (l r m : ℕ)
         (omega (arith, pair_sizes QL, s.owns.small)) (length AL.elems - 1) (length AL.elems) 0 0 (omega (arith, some_l)) (omega arith)
         (last_less (left_in QL) some_l) (omega arith) (omega arith) s.counts.1
 
-    pub left_lends : Lends w id c (last_of l m) (front_of r)
-    left_lends = rw (pair_count s c (omega arith) l hl m em) lends_l
+    pub left_lends : Lends w id c from to
+    left_lends = rw (ef, et, pair_count s c (omega arith) l hl m em) lends_l
 
     pub left_lent : (w' : List ℕ)
-        → ((q : Lends w id c (last_of l m) (front_of r)) → Lent w w' id c (last_of l m) (front_of r) q.lender.seated.node
-        q.parent.node q.taker.node)
+        → ((q : Lends w id c from to) → Lent w w' id c from to q.lender.seated.node q.parent.node q.taker.node)
         → Reshaped w w' (suc h_l) s.tree s.free (borrow_left h_l s.tree c) s.free
     unfolding lends_l lends_of borrow_left last but_last
     left_lent w' lent =
-        let L = (rw (pair_count s c (omega arith) l hl m em) at lent) lends_l in
+        let L = (rw (ef, et, pair_count s c (omega arith) l hl m em) at lent) lends_l in
         let e : ℕ = get_or s.tree.elems c 0 in
         let U = L.untouched in
         let three : (k : ℕ) → count k (l ∷ (id ∷ (r ∷ []))) ≤ count k (id ∷ []) + (count k (l ∷ []) + count k (r ∷ [])) =
@@ -231,7 +234,7 @@ module _ {w : List ℕ} {id c : ℕ} (l r m : ℕ)
         (all_append (all_drop (length AL.kids - 1) (left_kids QL U three)) (right_kids QL U three))
 
   -- the right child lends
-  module _ (s : PairReady RightLends w id c) where
+  module _ (ef : from ≡ front_of r) (et : to ≡ back_of l m) (s : PairReady RightLends w id c) where
     abbrev h_r : ℕ
     h_r = s.height
 
@@ -253,16 +256,15 @@ module _ {w : List ℕ} {id c : ℕ} (l r m : ℕ)
         (omega (arith, pair_sizes QR, s.owns.small)) 0 0 (length AR.elems) (length AR.elems + 1) some_r (omega arith)
         (first_less (right_in QR) some_r) (omega arith) (omega arith) s.counts.0
 
-    pub right_lends : Lends w id c (front_of r) (back_of l m)
-    right_lends = rw (pair_count s c (omega arith) l hl m em) lends_r
+    pub right_lends : Lends w id c from to
+    right_lends = rw (ef, et, pair_count s c (omega arith) l hl m em) lends_r
 
     pub right_lent : (w' : List ℕ)
-        → ((q : Lends w id c (front_of r) (back_of l m)) → Lent w w' id c (front_of r) (back_of l m) q.lender.seated.node
-        q.parent.node q.taker.node)
+        → ((q : Lends w id c from to) → Lent w w' id c from to q.lender.seated.node q.parent.node q.taker.node)
         → Reshaped w w' (suc h_r) s.tree s.free (borrow_right h_r s.tree c) s.free
     unfolding lends_r lends_of borrow_right
     right_lent w' lent =
-        let L = (rw (pair_count s c (omega arith) l hl m em) at lent) lends_r in
+        let L = (rw (ef, et, pair_count s c (omega arith) l hl m em) at lent) lends_r in
         let e : ℕ = get_or s.tree.elems c 0 in
         let U = L.untouched in
         let three : (k : ℕ) → count k (r ∷ (id ∷ (l ∷ []))) ≤ count k (id ∷ []) + (count k (l ∷ []) + count k (r ∷ [])) =

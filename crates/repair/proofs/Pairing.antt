@@ -20,15 +20,12 @@ use Rattle.pool.specs.Frame.{Untouched}
 use Rattle.pool.proofs.Node.{at_count, at_length}
 use Rattle.pool.proofs.Frame.{chain_untouched}
 use Rattle.tree.specs.Stands.{Owns, Reshaped}
-use Rattle.tree.proofs.Edits.{KidAt, each_kid, kids_untouched, kids_reshaped, kid_readable, child_is}
+use Rattle.tree.proofs.Edits.{KidAt, each_kid, kids_untouched, kids_reshaped, child_is}
 use Rattle.repair.specs.Ready.{PairReady}
 use Rattle.repair.proofs.Ends.{In}
 
 -- the pair's children, as the words of the node name them
 module _ {P : ℕ → ℕ → Type 0} {w : List ℕ} {id c : ℕ} (s : PairReady P w id c) (d : ℕ) (m : d ≤ c + 1) where
-  pub pair_kid : Inside w id × (d < 32)
-  pair_kid = kid_readable s.owns s.here (omega (arith, s.place, s.owns.fit.one_more))
-
   abbrev D : Tree s.height
   D = kid s.height s.tree d
 

@@ -8,7 +8,7 @@ ghost use Rattle.tree.specs.Stands.{Reshaped};
 ghost use Rattle.repair.specs.Ready.{PairReady, Few, LeftLends, RightLends, FillReady, Fills};
 
 use model::Repair;
-use pieces::End;
+use pieces::Spot;
 
 // A child that was brought to 16 elements: its node, how many elements came in front of its own, and how many nodes that freed.
 #[derive(Clone, Copy)]
@@ -16,6 +16,19 @@ pub struct Refill {
     pub id: usize,
     pub ahead: usize,
     pub freed: usize,
+}
+
+impl Refill {
+    // Nothing came in front.
+    fn in_place(id: usize, freed: usize) -> Refill
+        ensures { result ≡ record { id = id; ahead = 0; freed = freed } }
+    {
+        Refill {
+            id,
+            ahead: 0,
+            freed,
+        }
+    }
 }
 
 // ---- two neighbouring children
@@ -28,7 +41,12 @@ pub fn merge(pool: &mut [u64], id: usize, c: usize)
         (merge s.height s.tree c) ((kid s.height s.tree (c + 1)).id ∷ s.free) }
 {
     let l = pool::kid_at(pool, id, c);
-    let p = pieces::take_out(pool, id, c, c + 1, 0);
+    let between = Spot {
+        node: id,
+        elem: c,
+        kid: c + 1,
+    };
+    let p = pieces::take_out(pool, between, 0);
     pieces::append(pool, l, p.elem, p.kid);
     chain::give_node(pool, p.kid);
 }
@@ -43,17 +61,7 @@ pub fn borrow_left(pool: &mut [u64], id: usize, c: usize)
     let l = pool::kid_at(pool, id, c);
     let r = pool::kid_at(pool, id, c + 1);
     let m = pool::count_at(pool, l);
-    let from = End {
-        node: l,
-        elem: m - 1,
-        kid: m,
-    };
-    let to = End {
-        node: r,
-        elem: 0,
-        kid: 0,
-    };
-    pieces::lend(pool, id, c, from, to);
+    pieces::lend(pool, id, c, Spot::last(l, m), Spot::front(r));
 }
 
 // Child c of node id borrows from child c + 1.
@@ -66,17 +74,7 @@ pub fn borrow_right(pool: &mut [u64], id: usize, c: usize)
     let l = pool::kid_at(pool, id, c);
     let r = pool::kid_at(pool, id, c + 1);
     let m = pool::count_at(pool, l);
-    let from = End {
-        node: r,
-        elem: 0,
-        kid: 0,
-    };
-    let to = End {
-        node: l,
-        elem: m,
-        kid: m + 1,
-    };
-    pieces::lend(pool, id, c, from, to);
+    pieces::lend(pool, id, c, Spot::front(r), Spot::behind(l, m));
 }
 
 // ---- a child that has no element to spare
@@ -96,18 +94,16 @@ fn repair_for(pool: &[u64], id: usize, c: usize) -> Repair
     ensures { (s : FillReady pool.now id c) → result ≡ repair_for s.height s.tree c }
 {
     if !is_thin(pool, id, c) {
-        return Repair::Nothing;
+        Repair::Nothing
+    } else if c > 0 && !is_thin(pool, id, c - 1) {
+        Repair::FromLeft
+    } else if c < pool::count_at(pool, id) && !is_thin(pool, id, c + 1) {
+        Repair::FromRight
+    } else if c > 0 {
+        Repair::WithLeft
+    } else {
+        Repair::WithRight
     }
-    if c > 0 && !is_thin(pool, id, c - 1) {
-        return Repair::FromLeft;
-    }
-    if c < pool::count_at(pool, id) && !is_thin(pool, id, c + 1) {
-        return Repair::FromRight;
-    }
-    if c > 0 {
-        return Repair::WithLeft;
-    }
-    Repair::WithRight
 }
 
 // Child c of node id borrows from child c - 1: what comes from there stands in front.
@@ -151,36 +147,17 @@ pub fn fill(pool: &mut [u64], id: usize, c: usize) -> Refill
         s.height s.tree s.free c (fill s.height s.tree c s.free) result }
 {
     let k = pool::kid_at(pool, id, c);
-    let repair = repair_for(pool, id, c);
-    match repair {
-        Repair::Nothing => {
-            return Refill {
-                id: k,
-                ahead: 0,
-                freed: 0,
-            };
-        }
-        Repair::FromLeft => {
-            return fill_from_left(pool, id, c);
-        }
+    match repair_for(pool, id, c) {
+        Repair::Nothing => Refill::in_place(k, 0),
+        Repair::FromLeft => fill_from_left(pool, id, c),
         Repair::FromRight => {
             borrow_right(pool, id, c);
-            return Refill {
-                id: k,
-                ahead: 0,
-                freed: 0,
-            };
+            Refill::in_place(k, 0)
         }
-        Repair::WithLeft => {
-            return fill_with_left(pool, id, c);
-        }
+        Repair::WithLeft => fill_with_left(pool, id, c),
         Repair::WithRight => {
             merge(pool, id, c);
-            return Refill {
-                id: k,
-                ahead: 0,
-                freed: 1,
-            };
+            Refill::in_place(k, 1)
         }
     }
 }

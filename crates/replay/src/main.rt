@@ -3,7 +3,7 @@
 // of the pool's words are written.
 #![tactic(auto)]
 
-ghost use Rattle.std.specs.Prelude.{◌+◌, ◌*◌, ◌≤◌, length, IfOk};
+ghost use Rattle.std.specs.Prelude.{◌+◌, ◌*◌, ◌≤◌, ◌<◌, length, IfSome};
 
 use pool::{HEAD_WORDS, NODE_WORDS};
 use std::io;
@@ -24,69 +24,59 @@ const MOST_COMMANDS: usize = 24576;
 // An answer has at most 9 bytes for each byte of its command.
 const ROOM: usize = 9 * MOST_COMMANDS + 4;
 
-// Runs commands on an empty list, and gives how many bytes of the output are their answers.
-fn answer(pool: &mut [u64], commands: &[u8], output: &mut [u8]) -> usize
-    requires { 9 * length commands.now + 4 ≤ length output.old }
-    ensures { result ≤ length output.new }
+// A number of nodes, and commands for a pool of so many.
+#[derive(Clone, Copy)]
+struct Block<'a> {
+    nodes: usize,
+    commands: &'a [u8],
+    ghost few: { nodes ≤ 60 },
+    ghost short: { length commands.now ≤ 24576 },
+}
+
+// The block in front, and what follows it; none where no whole one stands.
+fn split_block(input: &[u8]) -> Option<(Block<'_>, &[u8])>
+    ensures { IfSome result (λ split. length split.1.now < length input.now) }
 {
-    door::format(pool);
+    let (head, body) = input.split_at_checked(BLOCK_HEAD)?;
+    let nodes = records::read_number(&head[..4]) as usize;
+    let n = records::read_number(&head[4..]) as usize;
+    if MOST_NODES < nodes || MOST_COMMANDS < n {
+        return None;
+    }
+    let (commands, rest) = body.split_at_checked(n)?;
+    Some((Block { nodes, commands }, rest))
+}
+
+// Runs commands on an empty list, and gives their answers.
+fn answer<'a>(pool: &mut [u64], commands: &[u8], output: &'a mut [u8]) -> &'a [u8] {
+    let _ = door::format(pool);
     let ran = batch::batch(pool, commands, output);
-    ran.written as usize
+    &output[..ran.written as usize]
 }
 
 // Writes what the commands of a block give.
-fn show(out: &mut impl Write, nodes: usize, commands: &[u8]) -> io::Result<()>
-    requires { (nodes ≤ 60) × (length commands.now ≤ 24576) }
-{
+fn show(out: &mut impl Write, block: Block<'_>) -> io::Result<()> {
     let mut words = [0u64; WORDS];
     let mut output = [0u8; ROOM];
-    let end = HEAD_WORDS + NODE_WORDS * nodes;
-    let pool = &mut words[..end];
-    let n = answer(pool, commands, &mut output);
-    out.write_all(&output[..n])?;
-    let words_digest = digest::rolled_words(0, pool);
-    writeln!(out, "{words_digest:016x}")
+    let pool = &mut words[..HEAD_WORDS + NODE_WORDS * block.nodes];
+    out.write_all(answer(pool, block.commands, &mut output))?;
+    let digest = digest::rolled_all(0, pool);
+    writeln!(out, "{digest:016x}")
 }
 
-// The block at a place: gives the place after it, or the input's end where no whole block stands.
-fn replay(out: &mut impl Write, input: &[u8], at: usize) -> io::Result<usize>
-    requires { at + 8 ≤ length input.now }
-    ensures { IfOk result (λ place. (at + 8 ≤ place) × (place ≤ length input.now)) }
-{
-    let nodes = records::read_number(input, at, 4) as usize;
-    let n = records::read_number(input, at + 4, 4) as usize;
-    let from = at + BLOCK_HEAD;
-    if MOST_NODES < nodes {
-        return Ok(input.len());
+// What follows the first line.
+fn after_line(input: &[u8]) -> &[u8] {
+    match input.iter().position(|byte| *byte == LINE_END) {
+        Some(end) => &input[end + 1..],
+        None => &[],
     }
-    if MOST_COMMANDS < n {
-        return Ok(input.len());
-    }
-    if input.len() - from < n {
-        return Ok(input.len());
-    }
-    show(out, nodes, &input[from..from + n])?;
-    Ok(from + n)
-}
-
-// The place after the first line.
-fn after_line(input: &[u8]) -> usize
-    ensures { result ≤ length input.now }
-{
-    let mut at = 0;
-    while at < input.len() {
-        at += 1;
-        if input[at - 1] == LINE_END {
-            return at;
-        }
-    }
-    at
 }
 
 fn replay_all(out: &mut impl Write, input: &[u8]) -> io::Result<()> {
-    let mut at = after_line(input);
-    while input.len() - at >= BLOCK_HEAD {
-        at = replay(out, input, at)?;
+    let mut rest = after_line(input);
+    while let Some((block, others)) = split_block(rest) {
+        show(out, block)?;
+        rest = others;
     }
     Ok(())
 }

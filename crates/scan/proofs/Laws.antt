@@ -2,9 +2,10 @@
 use mathlib.Core.Path.{◌≡◌, refl, sym, ap, ◌∙◌}
 use mathlib.Core.List.{List, ◌∷◌, ◌++◌}
 use mathlib.Core.Bool.{Bool, true, false, cond}
-use Prim.Native.Nat.{ℕ, ◌+◌, ◌≤◌, ◌<◌}
+use Prim.Native.Nat.{ℕ, ◌+◌, ◌-◌, ◌≤◌, ◌<◌}
 use native.Mathlib.Nat.{zero-add}
 use native.Mathlib.Omega.{arith}
+use borrow.Rule.Slice.PartMut.{put_mid}
 use borrow.Author.Tests.{lt-ltb, le-ltb}
 use lib.Dec.{ltb}
 use lib.ListN.{length, length-append}
@@ -17,6 +18,7 @@ use Rattle.pool.specs.Sound.{Holds, fits}
 use Rattle.pool.proofs.Whole.{holds-empty}
 use Rattle.admission.specs.Promise.{Formats}
 use Rattle.records.specs.Numbers.{bytes_of}
+use Rattle.records.proofs.Laws.{number_put}
 use Rattle.commands.specs.declared.Ran.{Ran}
 use Rattle.commands.specs.Steps.{batch_of}
 use Rattle.commands.specs.OnBag.{on_bag, ran_of}
@@ -31,19 +33,14 @@ enough_output input size few wide b = (never_7 input size (omega arith) b).0
 
 -- ---- the last record
 
-pub closed : (s v w : List ℕ) (at end number commands read : ℕ) → end ≡ at + length (143 ∷ bytes_of 1 number ++ bytes_of 4 commands)
-    → v ≡ sets s at (143 ∷ bytes_of 1 number ++ bytes_of 4 commands) → w ≡ sets v end (bytes_of 4 read)
-    → w ≡ sets s at (closing number commands read)
-unfolding closing
-closed s v w at end number commands read e f g =
+pub closed : (s v bs : List ℕ) (at end number commands read : ℕ) → at + 10 ≤ length s
+    → end ≡ at + length (143 ∷ bytes_of 1 number ++ bytes_of 4 commands) → v ≡ sets s at (143 ∷ bytes_of 1 number ++ bytes_of 4 commands)
+    → bs ≡ bytes_of (length (run v end (end + 4 - end))) read → put_mid end (end + 4 - end) v bs ≡ sets s at (closing number commands read)
+unfolding bytes_of closing
+closed s v bs at end number commands read room e f g =
     let head = 143 ∷ bytes_of 1 number ++ bytes_of 4 commands in
-    let both : sets (sets s at head) (at + length head) (bytes_of 4 read) ≡ sets s at (head ++ bytes_of 4 read) =
-    sym (sets-append s at head (bytes_of 4 read)) in
-    rw (g, f, e) both
-
-pub fields_end : (at end number commands : ℕ) → end ≡ at + length (143 ∷ bytes_of 1 number ++ bytes_of 4 commands) → end ≡ at + 6
-unfolding bytes_of
-fields_end at end number commands e = e
+    let fits : end + 4 ≤ length v = rw (f, length-sets s at head) (omega arith) in
+    rw (number_put v bs end (end + 4) 4 read refl fits g, f, e) (sym (sets-append s at head (bytes_of 4 read)))
 
 closing-length : (number commands read : ℕ) → length (closing number commands read) ≡ 10
 unfolding closing

@@ -16,18 +16,19 @@ const POOL_NODES: usize = 60;
 
 const POOL_WORDS: usize = HEAD_WORDS + NODE_WORDS * POOL_NODES;
 
-// Writes the last record at a place, and gives the place after it.
+// Writes the last record at a place, and gives the place after it. Kind and number are 01's bytes.
+#[tactic(auto, unfolding(records::specs::Numbers::bytes_of))]
 fn close(output: &mut [u8], at: usize, number: u64, commands: u64, read: u64) -> usize
     requires { at + 10 ≤ length output.old }
     ensures value { result ≡ at + 10 }
     ensures output_after { output.new ≡ sets output.old at (closing number commands read) }
 {
     let end = records::write_fields(output, at, 0x8F, number, 1, commands, 4);
-    records::write_number(output, end, 4, read);
+    records::write_number(&mut output[end..end + 4], read);
     end + 4
 }
 
-// Runs the commands of the input on an empty list, and gives how many bytes of the output are the answer to it.
+// Runs the commands of the input on an empty list, and gives how many bytes of the output are the answer to it: `Scans` speaks of all of it.
 pub fn scan(input: &[u8], output: &mut [u8]) -> usize
     requires { length output.old ≡ output_bytes }
     ensures { Scans input.now result output.new }
@@ -36,7 +37,7 @@ pub fn scan(input: &[u8], output: &mut [u8]) -> usize
         return close(output, 0, 8, 0, 0);
     }
     let mut pool = [0u64; POOL_WORDS];
-    door::format(&mut pool);
+    let _ = door::format(&mut pool);
     let ran = batch::batch(&mut pool, input, output);
     close(
         output,

@@ -1,6 +1,6 @@
 -- What the walk of the first pass has done, and found, at each step.
 use mathlib.Core.Path.{◌≡◌, refl, sym, ◌∙◌}
-use mathlib.Core.Bool.{Bool, true, false, true≢false, false≢true}
+use mathlib.Core.Bool.{Bool, true, false, false≢true}
 use mathlib.Core.List.{List, [], ◌∷◌}
 use Prim.Native.Nat.{ℕ, zero, suc, ◌+◌, ◌-◌, ◌≤◌, ◌<◌}
 use native.Mathlib.Decide.{dec_lt}
@@ -20,7 +20,7 @@ use Rattle.pool.proofs.Block.{length-block}
 use Rattle.pool.proofs.Runs.{run-append}
 use Rattle.marks.specs.Marks.{seen}
 use Rattle.shape.specs.Shape.{Adds, Unmet, Claims, Sturdy, Grows, GrownKids, GrowsKids, below}
-use Rattle.shape.proofs.Growth.{count-below, ids-leaf, ids_inner, here}
+use Rattle.shape.proofs.Growth.{count-below, ids-leaf, ids_inner}
 
 -- ---- the nodes below the first c children
 
@@ -46,9 +46,6 @@ module _ {P : Type 0} {m ks m' : List ℕ} where
   refused : length m' ≡ length m → (P → Unmet m ks → ⊥) → Claims false P m ks m'
   refused e f = record { good = λ t. absurd (false≢true t); bad = λ t. f; long = e }
 
-  accepted : length m' ≡ length m → P → Adds m ks m' → Claims true P m ks m'
-  accepted e x a = record { good = λ t. (x, a); bad = λ t. absurd (true≢false t); long = e }
-
 -- ---- one node
 
 id_counted : (w : List ℕ) (h k : ℕ) → 0 < count k (ids h (tree_at w h k))
@@ -56,10 +53,6 @@ id_counted w zero k = rw (ids-leaf w k) (omega (arith, count_self k []))
 id_counted w (suc h) k = rw (ids_inner w h k) (omega (arith, count_self k (below w h (kid_ids_at w k))))
 
 module _ (w : List ℕ) (p h least k : ℕ) (m : List ℕ) where
-  pub not_sturdy : {m' : List ℕ} → length m' ≡ length m → (Sturdy w p least k → ⊥)
-      → Grows false w p h least k m m'
-  not_sturdy e f = refused e (λ G U. f (here h G))
-
   pub met_twice : {m' : List ℕ} → length m' ≡ length m → 1 ≤ k → seen m k ≡ 1
       → Grows false w p h least k m m'
   met_twice q l e = refused q (λ G U. omega (arith, U k l, id_counted w h k))
@@ -90,14 +83,13 @@ module _ (w : List ℕ) (p h least k : ℕ) (m : List ℕ) where
 
 -- the first c children of node k are well grown, and marked
 pub record Walked (w : List ℕ) (p h k : ℕ) (m₀ m : List ℕ) (c : ℕ) : Type 0 where
-  pub most : c ≤ count_at w k + 1
   pub grown : GrownKids w p h k c
   pub adds : Adds m₀ (below w h (run (block w k) 33 c)) m
   pub long : length m ≡ length m₀
 
 pub walked_none : (w : List ℕ) (p h k : ℕ) (m : List ℕ) → Walked w p h k m m 0
 unfolding below run count
-walked_none w p h k m = record { most = omega arith; grown = λ c l. absurd (omega arith); adds = λ j a. omega arith; long = refl }
+walked_none w p h k m = record { grown = λ c l. absurd (omega arith); adds = λ j a. omega arith; long = refl }
 
 module _ (w : List ℕ) (p h k : ℕ) (I : Inside w k) (few : count_at w k ≤ 31) (m₀ m : List ℕ) (c : ℕ) (W : Walked w p h k m₀ m c) where
   -- child c, whose id is i
@@ -109,7 +101,6 @@ module _ (w : List ℕ) (p h k : ℕ) (I : Inside w k) (few : count_at w k ≤ 3
 
     pub walked_more : r ≡ true → Walked w p h k m₀ m' (c + 1)
     walked_more t = record {
-      most = omega arith;
       grown = λ j a. elim (dec_lt j c) [
         | yes b ↦ W.grown j b
         | no b ↦ (let q : j ≡ c = omega arith in rw (q, ← e) (M.good t).0)
@@ -123,8 +114,3 @@ module _ (w : List ℕ) (p h k : ℕ) (I : Inside w k) (few : count_at w k ≤ 3
         let K = G c (omega arith) in
         M.bad f (rw e K) (λ j a.
         omega (arith, U j a, W.adds j a, next j, below_most w h (block w k) j (c + 1) (count_at w k + 1) (omega arith))))
-
-  pub walked_all : count_at w k < c → GrowsKids true w p h k m₀ m
-  walked_all l =
-      let e : count_at w k + 1 ≡ c = omega (arith, W.most) in
-      rw e (accepted W.long W.grown W.adds)

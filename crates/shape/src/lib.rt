@@ -1,4 +1,5 @@
 // The shape of the tree in a pool's words: the first pass of the check of 01. The words may be any at all.
+// `pool`, `p` and `marks` go on side by side: in a type, lent by `&mut`, each contract would have to say that the pool and p stay.
 #![tactic(auto)]
 
 ghost use Rattle.std.specs.Prelude.{◌≡◌, ◌+◌, ◌*◌, ◌^◌, ◌<◌, ◌≤◌, length};
@@ -22,8 +23,7 @@ pub fn depth(pool: &[u64], p: usize, k: usize) -> usize
     ensures { result ≡ levels_at p pool.now k }
 {
     let mut at = k;
-    let mut levels = 0;
-    while levels < p {
+    for levels in 0..p {
         if p < at {
             return levels;
         }
@@ -31,9 +31,8 @@ pub fn depth(pool: &[u64], p: usize, k: usize) -> usize
         if at == 0 {
             return levels;
         }
-        levels += 1;
     }
-    levels
+    p
 }
 
 // Whether node k is one of the pool, and has `least` to 31 elements.
@@ -54,10 +53,8 @@ fn within_reach(p: usize, levels: usize) -> bool
     ensures { Decides result (InReach p levels) }
 {
     let mut left = (MOST * p + 1) / (LEAST_ROOT + 1);
-    let mut rest = levels;
-    while 0 < rest {
-        left = left / (LEAST + 1);
-        rest -= 1;
+    for _ in 0..levels {
+        left /= LEAST + 1;
     }
     0 < left
 }
@@ -92,12 +89,11 @@ fn grown_kids(pool: &[u64], p: usize, marks: &mut [u64], k: usize, levels: usize
     ensures { GrowsKids result pool.now p levels k marks.old marks.new }
 {
     let n = count_at(pool, k);
-    let mut c = 0;
-    while c <= n {
+    // Not 0..=n, which is tested twice for each child.
+    for c in 0..n + 1 {
         if !grown(pool, p, marks, kid_at(pool, k, c), levels, LEAST) {
             return false;
         }
-        c += 1;
     }
     true
 }

@@ -6,13 +6,14 @@ use native.Mathlib.Decide.{dec_lt}
 use native.Mathlib.Omega.{arith}
 use lib.ListN.{length, get_or, length-append}
 use lib.Seq.{ext_get_or}
+use Rattle.std.specs.Prelude.{None, Some}
 use Rattle.lists.specs.Lists.{count, from}
 use Rattle.lists.proofs.All.{All, nil, cons, all_append}
 use Rattle.lists.proofs.Counts.{count-append, count_self, count-nil, length_from}
 use Rattle.lists.proofs.Ranges.{count_most}
-use Rattle.pool.specs.Layout.{chain_word, head_words, node_words, block, free_block}
+use Rattle.pool.specs.Layout.{chain_word, head_words, node_words, start, block, free_block}
 use Rattle.pool.specs.Parts.{Inside, Stored, ChainAt}
-use Rattle.pool.proofs.Block.{length-block}
+use Rattle.pool.proofs.Block.{length-block, block_word}
 use Rattle.pool.proofs.Blocks.{length-free_block}
 use Rattle.pool.proofs.Cells.{Links}
 use Rattle.pool.proofs.Node.{free_word, free_link}
@@ -21,7 +22,6 @@ use Rattle.marks.specs.Marks.{seen}
 use Rattle.marks.proofs.Laws.{seen-lt}
 use Rattle.shape.specs.Shape.{Adds, Unmet}
 use Rattle.shape.proofs.Growth.{once_all}
-use Rattle.sound.specs.declared.Part.TheVariants.{Wrong, Right}
 use Rattle.sound.specs.Filled.{Clear}
 use Rattle.sound.specs.Check.{ChainFound, Chains}
 
@@ -106,7 +106,7 @@ module _ (w : List ℕ) (p : ℕ) (m₀ m : List ℕ) (k n : ℕ) (P : Passed w 
       omega (arith, P.many, count_most P.nodes (from 1 p) once, length_from 1 p)
 
   -- the chain ends
-  pub passed_all : k ≡ 0 → Chains (Right n) w m₀ m
+  pub passed_all : k ≡ 0 → Chains (Some n) w m₀ m
   passed_all e =
       let c = stretch-chain w (get_or w chain_word 0) P.nodes (rw e at P.stretch) in
       let found : ChainFound n w m₀ m =
@@ -126,33 +126,33 @@ module _ (w : List ℕ) (p : ℕ) (m₀ m : List ℕ) (k n : ℕ) (P : Passed w 
         let h = first w k r.0 r.2 some in
         (h.0, rw r.1 (omega (arith, h.1, count-append k P.nodes r.0)))
 
-    wrong : {m' : List ℕ} → length m' ≡ length m → ((f : List ℕ) → ChainAt w f → Unmet m₀ f → ⊥) → Chains Wrong w m₀ m'
+    wrong : {m' : List ℕ} → length m' ≡ length m → ((f : List ℕ) → ChainAt w f → Unmet m₀ f → ⊥) → Chains None w m₀ m'
     wrong e f = record {
       good = λ i q. let z : ◌≡◌ {A = ℕ} 0 1 = cc in absurd (omega arith);
       bad = λ q. f;
       long = e ∙ P.long;
     }
 
-    pub passed_past : length w ≡ head_words + node_words * p → p < k → Chains Wrong w m₀ m
+    pub passed_past : length w ≡ head_words + node_words * p → p < k → Chains None w m₀ m
     passed_past e l = wrong refl (λ f C U. omega (arith, (goes_on f C).0.inside.room, (goes_on f C).0.inside.some))
 
-    pub passed_twice : {m' : List ℕ} → length m' ≡ length m → seen m k ≡ 1 → Chains Wrong w m₀ m'
+    pub passed_twice : {m' : List ℕ} → length m' ≡ length m → seen m k ≡ 1 → Chains None w m₀ m'
     passed_twice e s = wrong e (λ f C U.
         let G = goes_on f C in
         omega (arith, G.1, U k G.0.inside.some, P.adds k G.0.inside.some))
 
-    pub passed_dirty : {m' : List ℕ} → length m' ≡ length m → (Clear (block w k) 0 65 → ⊥) → Chains Wrong w m₀ m'
+    pub passed_dirty : {m' : List ℕ} → length m' ≡ length m → (Clear (block w k) 0 65 → ⊥) → Chains None w m₀ m'
     passed_dirty e d = wrong e (λ f C U. d (λ i a b. rw (goes_on f C).0.is (free_word _ i b)))
 
     pub passed_more : length w ≡ head_words + node_words * p → k ≤ p → {m' : List ℕ} → length m' ≡ length m → Adds m (k ∷ []) m'
-        → Clear (block w k) 0 65 → (k' : ℕ) → k' ≡ link_at w k → Passed w p m₀ m' k' (n + 1)
-    passed_more e l {m'} q A C k' is =
+        → Clear (block w k) 0 65 → (a : ℕ) → a ≡ start k → Passed w p m₀ m' (get_or w (a + 65) 0) (n + 1)
+    passed_more e l {m'} q A C a is =
         let I : Inside w k = record { some = omega arith; room = omega arith } in
         record {
           nodes = P.nodes ++ (k ∷ []);
           many = omega (arith, P.many, length-append P.nodes (k ∷ []));
-          stretch = rw is (longer w (get_or w chain_word 0) k P.nodes P.stretch (clear_free w k I C));
+          stretch = rw (is, ← block_word w k 65 (omega arith)) (longer w (get_or w chain_word 0) k P.nodes P.stretch (clear_free w k I C));
           within = all_append P.within (cons (record { low = I.some; high = l }) nil);
-          adds = λ j a. omega (arith, P.adds j a, A j a, count-append j P.nodes (k ∷ []));
+          adds = λ j l. omega (arith, P.adds j l, A j l, count-append j P.nodes (k ∷ []));
           long = q ∙ P.long;
         }

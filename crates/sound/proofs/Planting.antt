@@ -5,6 +5,7 @@ use mathlib.Core.List.{List}
 use Prim.Native.Nat.{ℕ, zero, suc, ◌+◌, ◌*◌, ◌≤◌}
 use native.Mathlib.Omega.{arith}
 use lib.ListN.{length, get_or}
+use Rattle.std.specs.Prelude.{None, Some}
 use Rattle.lists.specs.Lists.{count, from}
 use Rattle.lists.proofs.All.{All, all_map}
 use Rattle.lists.proofs.Counts.{count-nil, counted, all_counted}
@@ -19,7 +20,6 @@ use Rattle.marks.specs.Marks.{seen}
 use Rattle.marks.proofs.Laws.{seen-lt}
 use Rattle.shape.specs.Shape.{Decides, Ends, WellShaped, Grown, Shapes}
 use Rattle.shape.proofs.Growth.{tree_id, in_from, grown_nodes, shape-grown, shape_levels}
-use Rattle.sound.specs.declared.Part.TheVariants.{Wrong, Right}
 use Rattle.sound.specs.Filled.{Readable, Filled}
 use Rattle.sound.specs.Check.{Planted, TreeFound, Trees}
 use Rattle.sound.proofs.Contents.{at_filled, grown_reads, filled_at}
@@ -45,10 +45,10 @@ planted_shape w p h t P =
 -- ---- the answers
 
 module _ {w : List ℕ} {p : ℕ} {m m' : List ℕ} where
-  wrong : length m' ≡ length m → ((t : Root) → Planted w p t → ⊥) → Trees Wrong w p m m'
+  wrong : length m' ≡ length m → ((t : Root) → Planted w p t → ⊥) → Trees None w p m m'
   wrong e f = record { good = λ h q. let z : ◌≡◌ {A = ℕ} 0 1 = cc in absurd (omega arith); bad = λ q. f; long = e }
 
-  right : {h : ℕ} → length m' ≡ length m → TreeFound h w p m m' → Trees (Right h) w p m m'
+  right : {h : ℕ} → length m' ≡ length m → TreeFound h w p m m' → Trees (Some h) w p m m'
   right {h} e T = record {
     good = λ g q. let d : h ≡ g = cc in subst (λ (n : ℕ). TreeFound n w p m m') d T;
     bad = λ q. let z : ◌≡◌ {A = ℕ} 0 1 = cc in absurd (omega arith);
@@ -57,7 +57,7 @@ module _ {w : List ℕ} {p : ℕ} {m m' : List ℕ} where
 
 module _ (w : List ℕ) (p : ℕ) (exact : length w ≡ head_words + node_words * p) (m : List ℕ) (none : (j : ℕ) → seen m j ≡ 0)
     (k : ℕ) (is : get_or w root_word 0 ≡ k) where
-  pub no_tree : k ≡ 0 → Trees (Right 0) w p m m
+  pub no_tree : k ≡ 0 → Trees (Some 0) w p m m
   unfolding root_ids root_id levels_of
   no_tree e = right refl record {
     root = bare;
@@ -78,7 +78,7 @@ module _ (w : List ℕ) (p : ℕ) (exact : length w ≡ head_words + node_words 
         subst₂ (λ (a b : ℕ). WellShaped w p a b × At w a (tree_at w a b)) d e W
 
     module _ (r : Bool) (m₁ : List ℕ) (M : Shapes r w p h k m m₁) where
-      pub not_shaped : r ≡ false → Trees Wrong w p m m₁
+      pub not_shaped : r ≡ false → Trees None w p m m₁
       not_shaped f = wrong M.long (λ t P.
           let W = (only t P).0 in
           M.bad f W (λ j l. omega (arith, none j, W.once j, count-from j 1 p)))
@@ -100,12 +100,12 @@ module _ (w : List ℕ) (p : ℕ) (exact : length w ≡ head_words + node_words 
         )
 
         module _ (q : Bool) (T : Decides q ((j : ℕ) → 1 ≤ j → seen m₁ j ≡ 1 → Filled w j)) where
-          pub not_filled : q ≡ false → Trees Wrong w p m m₁
+          pub not_filled : q ≡ false → Trees None w p m m₁
           not_filled f = wrong M.long (λ u P.
               let fs = at_filled w h (tree_at w h k) (M.good t).0.fit.fit (only u P).1 in
               T.bad f (λ j l e. counted fs j (omega (arith, marked j l))))
 
-          pub planted : q ≡ true → Trees (Right h) w p m m₁
+          pub planted : q ≡ true → Trees (Some h) w p m m₁
           unfolding root_ids root_id levels_of
           planted g =
               let fs : All (Filled w) nodes =

@@ -6,7 +6,9 @@ use Prim.Native.Nat.{ℕ, ◌+◌, ◌*◌, ◌≤◌}
 use native.Mathlib.Decide.{dec_le}
 use native.Mathlib.Omega.{arith}
 use lib.ListN.{length, get_or}
+use Rattle.std.specs.Prelude.{Option, None, Some, Ok, Err}
 use Rattle.lists.specs.Lists.{count, from}
+use Rattle.model.specs.declared.Refusal.TheVariants.{Unsound, Misfit}
 use Rattle.lists.proofs.Counts.{count_in, length_from}
 use Rattle.lists.proofs.Ranges.{count_most, count-from}
 use Rattle.model.specs.Tree.{Root, root_ids, Bag, met, levels_of}
@@ -20,11 +22,9 @@ use Rattle.pool.proofs.Read.{root_read, chain_read, one_bag}
 use Rattle.marks.specs.Marks.{seen}
 use Rattle.shape.specs.Shape.{Decides}
 use Rattle.shape.proofs.Growth.{in_from}
-use Rattle.sound.specs.declared.Part.{Part}
-use Rattle.sound.specs.declared.Part.TheVariants.{Wrong, Right}
 use Rattle.sound.specs.Check.{Planted, TreeFound, Trees, ChainFound, Chains, Checks}
 
-pub misfit : (w : List ℕ) → fits (length w) ≡ false → Checks w (record { number = 4; levels = 0; free = 0 })
+pub misfit : (w : List ℕ) → fits (length w) ≡ false → Checks w (Err Misfit)
 misfit w f = record {
   misfit = λ n. refl;
   unsound = λ s u. absurd (true≢false (sym s ∙ f));
@@ -47,18 +47,18 @@ only_chain w f g C D =
 -- ---- a pool whose length fits
 
 module _ (w : List ℕ) (p : ℕ) (exact : length w ≡ head_words + node_words * p) (few : p ≤ most_nodes) where
-  unsound : (Sound w → ⊥) → Checks w (record { number = 1; levels = 0; free = 0 })
+  unsound : (Sound w → ⊥) → Checks w (Err Unsound)
   unsound u = record {
     misfit = λ n. absurd (n (fits_of (length w) p exact few));
     unsound = λ s v. refl;
     sound = λ b H. absurd (u (b, H));
   }
 
-  sound : (b : Bag) → Holds w b → Checks w (record { number = 0; levels = levels_of b.root; free = length b.free })
+  sound : (b : Bag) → Holds w b → Checks w (Ok (record { levels = levels_of b.root; free = length b.free }))
   sound b H = record {
     misfit = λ n. absurd (n (fits_of (length w) p exact few));
     unsound = λ s u. absurd (u (b, H));
-    sound = λ c K. ap (λ (d : Bag). record { number = 0; levels = levels_of d.root; free = length d.free }) (one_bag H K);
+    sound = λ c K. ap (λ (d : Bag). Ok (record { levels = levels_of d.root; free = length d.free })) (one_bag H K);
   }
 
   -- what a pool that holds a bag has where
@@ -74,11 +74,11 @@ module _ (w : List ℕ) (p : ℕ) (exact : length w ≡ head_words + node_words 
       let P = (held H).1 in
       record { top = P.top; at = P.tree; fit = L.fit; once = λ j. omega (arith, L.once j) }
 
-  module _ (m : List ℕ) (none : (j : ℕ) → seen m j ≡ 0) (r : Part) (m₁ : List ℕ) (T : Trees r w p m m₁) where
-    pub wrong_tree : r ≡ Wrong → Checks w (record { number = 1; levels = 0; free = 0 })
+  module _ (m : List ℕ) (none : (j : ℕ) → seen m j ≡ 0) (r : Option ℕ) (m₁ : List ℕ) (T : Trees r w p m m₁) where
+    pub wrong_tree : r ≡ None → Checks w (Err Unsound)
     wrong_tree e = unsound (λ s. T.bad e s.0.root (planted s.1))
 
-    module _ (h : ℕ) (e : r ≡ Right h) (q : Part) (m₂ : List ℕ) (C : Chains q w m₁ m₂) where
+    module _ (h : ℕ) (e : r ≡ Some h) (q : Option ℕ) (m₂ : List ℕ) (C : Chains q w m₁ m₂) where
       abbrev tree : TreeFound h w p m m₁
       tree = T.good h e
 
@@ -88,16 +88,16 @@ module _ (w : List ℕ) (p : ℕ) (exact : length w ≡ head_words + node_words 
           let e : tree.root ≡ b.root = only_root w p tree.root tree.planted ∙ sym (only_root w p b.root (planted H)) in
           rw (← e) (omega (arith, none j, tree.adds j l))
 
-      pub wrong_chain : q ≡ Wrong → Checks w (record { number = 1; levels = 0; free = 0 })
+      pub wrong_chain : q ≡ None → Checks w (Err Unsound)
       wrong_chain f = unsound (λ s.
           let H = s.1 in
           C.bad f s.0.free (held H).1.chain (λ j l. omega (arith, same_root H j l, (held H).0.once j, count-from j 1 p)))
 
-      module _ (n : ℕ) (f : q ≡ Right n) (t : Bool) (A : Decides t ((k : ℕ) → 1 ≤ k → k ≤ p → seen m₂ k ≡ 1)) where
+      module _ (n : ℕ) (f : q ≡ Some n) (t : Bool) (A : Decides t ((k : ℕ) → 1 ≤ k → k ≤ p → seen m₂ k ≡ 1)) where
         abbrev chain : ChainFound n w m₁ m₂
         chain = C.good n f
 
-        pub lost_node : t ≡ false → Checks w (record { number = 1; levels = 0; free = 0 })
+        pub lost_node : t ≡ false → Checks w (Err Unsound)
         lost_node g = unsound (λ s.
             let H = s.1 in
             let e : chain.free ≡ s.0.free = only_chain w chain.free s.0.free chain.chain (held H).1.chain in
@@ -125,7 +125,7 @@ module _ (w : List ℕ) (p : ℕ) (exact : length w ≡ head_words + node_words 
                   ]
                 ]
 
-        pub all_right : t ≡ true → Checks w (record { number = 0; levels = h; free = n })
+        pub all_right : t ≡ true → Checks w (Ok (record { levels = h; free = n }))
         all_right g =
             let P : Parts w p bag =
             record { sized = exact; top = tree.planted.top; tree = tree.planted.at; chain = chain.chain } in

@@ -3,14 +3,16 @@
 #![tactic(auto)]
 
 ghost use Rattle.std.specs.Prelude.{◌≡◌, ℕ, ◌+◌, ◌*◌, ◌<◌, ◌≤◌, length};
+ghost use Rattle.std.specs.Int.{bit_at};
 ghost use Rattle.pool.specs.Layout.{node_words, block};
 ghost use Rattle.pool.specs.Parts.{Inside, count_at, kid_at, kid_ids_at};
-ghost use Rattle.marks.specs.Marks.{bit, seen};
+ghost use Rattle.marks.specs.Marks.{seen};
 ghost use Rattle.shape.specs.Shape.{Decides, MarksFit};
 ghost use Rattle.sound.specs.Filled.{Clear, Readable, Filled, AddsUp};
 ghost use Rattle.sound.specs.Check.{Trees, Chains, Checks};
 
 use marks::{WORD_MARKS, claim, lowest};
+use model::Refusal;
 use pool::{
     CHAIN_WORD, ELEMS, HEAD_WORDS, KIDS, LINK, MOST_NODES, NODE_WORDS, ROOT_WORD, count_at, kid_at,
     leaf_at, length_at, length_fits, start_of,
@@ -20,24 +22,16 @@ use pool::{
 const MARK_WORDS: usize = MOST_NODES / WORD_MARKS;
 
 // A word with all its marks.
-const ALL: u64 = 0xffff_ffff_ffff_ffff;
+const ALL: u64 = u64::MAX;
 
 // Words that are looked at together: a number that the compiler knows.
 const STEP: usize = 16;
 
-// What the check says: 01's number, and of a sound pool the inner levels of its tree and its free nodes.
+// What the check finds of a sound pool: the inner levels of its tree, and its free nodes.
 #[derive(Clone, Copy)]
 pub struct Checked {
-    pub number: u64,
     pub levels: usize,
     pub free: usize,
-}
-
-// What is found of the tree, its inner levels, or of the chain, its nodes; or that it is not right.
-#[derive(Clone, Copy)]
-pub enum Part {
-    Wrong,
-    Right(usize),
 }
 
 // ---- words that are 0
@@ -47,13 +41,7 @@ fn zeros(node: &[u64], from: usize, to: usize) -> bool
     requires { (from ≤ to) × (to ≤ length node.now) }
     ensures { Decides result (Clear node.now from to) }
 {
-    let mut all = 0u64;
-    let mut i = from;
-    while i < to {
-        all = all | node[i];
-        i += 1;
-    }
-    all == 0
+    node[from..to].iter().fold(0, |all, word| all | *word) == 0
 }
 
 fn zeros_at(pool: &[u64], k: usize, from: usize, to: usize) -> bool
@@ -72,12 +60,10 @@ fn rest_zeros(pool: &[u64], k: usize, from: usize) -> bool
     requires from_bound { from ≤ 33 }
     ensures { Decides result (Clear (block pool.now k) from node_words) }
 {
-    let mut i = from;
-    while i < KIDS {
+    for i in (from..KIDS).step_by(STEP) {
         if !zeros_at(pool, k, i, i + STEP) {
             return false;
         }
-        i += STEP;
     }
     zeros_at(pool, k, KIDS, NODE_WORDS)
 }
@@ -92,19 +78,15 @@ fn adds_up(pool: &[u64], k: usize) -> bool
     ensures { Decides result (AddsUp pool.now k (kid_ids_at pool.now k)) }
 {
     let n = count_at(pool, k);
-    let mut left = length_at(pool, k);
-    if left < n {
+    let Some(mut left) = length_at(pool, k).checked_sub(n) else {
         return false;
-    }
-    left -= n;
-    let mut c = 0;
-    while c <= n {
-        let m = length_at(pool, kid_at(pool, k, c));
-        if left < m {
+    };
+    // Not 0..=n, which is tested twice for each child.
+    for c in 0..n + 1 {
+        let Some(rest) = left.checked_sub(length_at(pool, kid_at(pool, k, c))) else {
             return false;
-        }
-        left -= m;
-        c += 1;
+        };
+        left = rest;
     }
     left == 0
 }
@@ -127,10 +109,10 @@ fn filled(pool: &[u64], k: usize) -> bool
     adds_up(pool, k)
 }
 
-// Whether the nodes are filled whose marks are set in a word; its first mark is that of node `first`.
+// Whether the nodes are filled whose marks are set in a word, which loses them one by one; its first mark is that of node `first`.
 fn word_filled(pool: &[u64], first: usize, word: u64) -> bool
-    requires { (j : ℕ) → j < 64 → bit word j ≡ 1 → Readable pool.now (first + j) }
-    ensures { Decides result ((j : ℕ) → j < 64 → bit word j ≡ 1 → Filled pool.now (first + j)) }
+    requires { (j : ℕ) → j < 64 → bit_at word j ≡ 1 → Readable pool.now (first + j) }
+    ensures { Decides result ((j : ℕ) → j < 64 → bit_at word j ≡ 1 → Filled pool.now (first + j)) }
 {
     let mut rest = word;
     while rest != 0 {
@@ -149,12 +131,10 @@ fn all_filled(pool: &[u64], p: usize, marks: &[u64]) -> bool
     requires by_index { (k : ℕ) → 1 ≤ k → seen marks.now k ≡ 1 → (k ≤ p) × Readable pool.now k }
     ensures { Decides result ((k : ℕ) → 1 ≤ k → seen marks.now k ≡ 1 → Filled pool.now k) }
 {
-    let mut i = 0;
-    while i * WORD_MARKS < p {
-        if !word_filled(pool, i * WORD_MARKS + 1, marks[i]) {
+    for (i, word) in marks[..p.div_ceil(WORD_MARKS)].iter().enumerate() {
+        if !word_filled(pool, i * WORD_MARKS + 1, *word) {
             return false;
         }
-        i += 1;
     }
     true
 }
@@ -162,49 +142,50 @@ fn all_filled(pool: &[u64], p: usize, marks: &[u64]) -> bool
 // ---- the whole pool
 
 // Whether the tree is right: both passes. Marks its nodes.
-fn tree(pool: &[u64], p: usize, marks: &mut [u64]) -> Part
+fn tree(pool: &[u64], p: usize, marks: &mut [u64]) -> Option<usize>
     requires marks_fit { MarksFit pool.now p marks.old }
     requires by_index { (k : ℕ) → seen marks.old k ≡ 0 }
     ensures { Trees result pool.now p marks.old marks.new }
 {
     let root = pool[ROOT_WORD] as usize;
     if root == 0 {
-        return Part::Right(0);
+        return Some(0);
     }
     let levels = shape::depth(pool, p, root);
     if !shape::shape(pool, p, marks, root, levels) {
-        return Part::Wrong;
+        return None;
     }
     if !all_filled(pool, p, marks) {
-        return Part::Wrong;
+        return None;
     }
-    Part::Right(levels)
+    Some(levels)
 }
 
 // Whether the free chain is right, and its nodes were not met. Marks and counts them.
-fn chain(pool: &[u64], p: usize, marks: &mut [u64]) -> Part
+fn chain(pool: &[u64], p: usize, marks: &mut [u64]) -> Option<usize>
     requires { MarksFit pool.now p marks.old }
     ensures { Chains result pool.now marks.old marks.new }
 {
     let mut k = pool[CHAIN_WORD] as usize;
-    let mut n = 0;
-    while k != 0 {
+    for free in 0..=p {
+        if k == 0 {
+            return Some(free);
+        }
         if p < k {
-            return Part::Wrong;
+            return None;
         }
         // The link is read first, so that the next node can be fetched while this one is looked at.
         let next = pool[start_of(k) + LINK] as usize;
         let new = claim(marks, k);
         if !new {
-            return Part::Wrong;
+            return None;
         }
         if !zeros_at(pool, k, 0, LINK) {
-            return Part::Wrong;
+            return None;
         }
         k = next;
-        n += 1;
     }
-    Part::Right(n)
+    None
 }
 
 // Whether every node is marked.
@@ -213,12 +194,8 @@ fn all_marked(marks: &[u64], p: usize) -> bool
     ensures { Decides result ((k : ℕ) → 1 ≤ k → k ≤ p → seen marks.now k ≡ 1) }
 {
     let whole = p / WORD_MARKS;
-    let mut i = 0;
-    while i < whole {
-        if marks[i] != ALL {
-            return false;
-        }
-        i += 1;
+    if !marks[..whole].iter().all(|word| *word == ALL) {
+        return false;
     }
     let left = p % WORD_MARKS;
     if left == 0 {
@@ -229,44 +206,18 @@ fn all_marked(marks: &[u64], p: usize) -> bool
 }
 
 // Checks the pool in full.
-pub fn check(pool: &[u64]) -> Checked
+pub fn check(pool: &[u64]) -> Result<Checked, Refusal>
     ensures { Checks pool.now result }
 {
     if !length_fits(pool.len()) {
-        return Checked {
-            number: 4,
-            levels: 0,
-            free: 0,
-        };
+        return Err(Refusal::Misfit);
     }
     let p = (pool.len() - HEAD_WORDS) / NODE_WORDS;
     let mut marks = [0u64; MARK_WORDS];
-    let t = tree(pool, p, &mut marks);
-    let Part::Right(levels) = t else {
-        return Checked {
-            number: 1,
-            levels: 0,
-            free: 0,
-        };
-    };
-    let f = chain(pool, p, &mut marks);
-    let Part::Right(free) = f else {
-        return Checked {
-            number: 1,
-            levels: 0,
-            free: 0,
-        };
-    };
+    let levels = tree(pool, p, &mut marks).ok_or(Refusal::Unsound)?;
+    let free = chain(pool, p, &mut marks).ok_or(Refusal::Unsound)?;
     if !all_marked(&marks, p) {
-        return Checked {
-            number: 1,
-            levels: 0,
-            free: 0,
-        };
+        return Err(Refusal::Unsound);
     }
-    Checked {
-        number: 0,
-        levels,
-        free,
-    }
+    Ok(Checked { levels, free })
 }

@@ -1,7 +1,7 @@
 -- What the functions on single nodes leave.
 use mathlib.Core.Path.{◌≡◌, refl, ap, ◌∙◌}
 use mathlib.Core.List.{List, [], ◌∷◌}
-use mathlib.Core.Logic.{◌≢◌, ◌⊎◌}
+use mathlib.Core.Logic.{◌≢◌}
 use Prim.Native.Nat.{ℕ, ◌+◌, ◌-◌, ◌≤◌}
 use native.Mathlib.Omega.{arith}
 use borrow.Rule.Slice.PartMut.{put_mid}
@@ -12,7 +12,7 @@ use Rattle.lists.proofs.Edits.{length-insert_at}
 use Rattle.words.specs.Words.{run}
 use Rattle.words.proofs.Laws.{run_length}
 use Rattle.pool.specs.Layout.{node_words, start, block, with_block, slots, node_block}
-use Rattle.pool.proofs.Block.{block_other, runs_apart}
+use Rattle.pool.proofs.Block.{block_other}
 use Rattle.pool.proofs.Blocks.{length-slots}
 use Rattle.pool.proofs.Store.{run-block, sets_in, set_in, sets-block, part, block_in}
 use Rattle.pool.proofs.Slots.{parts}
@@ -82,10 +82,6 @@ moves_apart {w} {k} {j} s e =
     omega (arith, s.full)
 
 module _ {w : List ℕ} {k j : ℕ} (s : Moves w k j) (a b : ℕ) (ea : a ≡ start k) (eb : b ≡ start j) where
-  pub halves_apart : (i o n : ℕ) → i + n ≤ node_words → o + n ≤ node_words → (b + o ≤ a + i) ⊎ (a + i + n ≤ b + o)
-  halves_apart i o n li lo =
-      runs_apart s.node.stored.inside s.blank.inside (moves_apart s) (a + i) (b + o) n (omega arith) (omega arith) (omega arith) (omega arith)
-
   pub upper_moved : (n : ℕ) (w₁ w₂ : List ℕ) → w₁ ≡ sets w (b + 2) (run w (a + 18) 15) → w₂ ≡ sets w₁ (b + 33) (run w₁ (a + 49) 16)
       → set (set w₂ (b + 0) 15) (b + 1) n ≡ with_block w j (node_block n (drop 16 s.node.elems) (drop 16 s.node.kids))
   unfolding node_block

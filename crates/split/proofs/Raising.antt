@@ -1,5 +1,5 @@
 -- A full root goes under a new one: what each step of the code asks, and the tree that stands in the end.
-use mathlib.Core.Path.{◌≡◌, refl, sym, ap, ap₂, subst, ◌∙◌}
+use mathlib.Core.Path.{◌≡◌, refl, sym, ap, ap₂, ◌∙◌}
 use mathlib.Core.List.{List, [], ◌∷◌, ◌++◌}
 use Prim.Native.Nat.{ℕ, suc, ◌+◌, ◌≤◌}
 use native.Mathlib.Omega.{arith}
@@ -12,7 +12,7 @@ use Rattle.model.specs.Tree.{Tree, none, size, ids}
 use Rattle.model.specs.Insert.{split_child}
 use Rattle.model.proofs.Nodes.{node, held, held_inner, fits, child}
 use Rattle.pool.specs.Layout.{with_block, node_block, kid_ids, root_block}
-use Rattle.pool.specs.Parts.{Inside, At, length_at}
+use Rattle.pool.specs.Parts.{At, length_at}
 use Rattle.chain.specs.Chain.{Free, Took}
 use Rattle.pool.proofs.Blocks.{length-node_block}
 use Rattle.pool.proofs.Node.{at_length}
@@ -29,9 +29,6 @@ module _ {w : List ℕ} {old : ℕ} (S : RaiseReady w old) where
 
   abbrev f₁ : List ℕ
   f₁ = S.free
-
-  pub old_inside : Inside w old
-  old_inside = subst (Inside w) S.here S.owns.at.here.inside
 
   pub old_free : Free w f₁
   old_free = record { chain = S.owns.chain; once = λ k. omega (arith, S.owns.once k); some = omega (arith, S.two) }

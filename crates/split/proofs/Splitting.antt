@@ -18,7 +18,7 @@ use Rattle.model.proofs.Nodes.{held, held_id, kids_held, Rearranged, parts_held}
 use Rattle.model.proofs.Find.{place, found}
 use Rattle.model.proofs.Split.{split_law}
 use Rattle.pool.specs.Layout.{with_block, node_block, id_of, kid_ids, root_block}
-use Rattle.pool.specs.Parts.{At, length_at, Inside, kid_at}
+use Rattle.pool.specs.Parts.{At, length_at, kid_at}
 use Rattle.pool.specs.Frame.{Untouched}
 use Rattle.chain.specs.Chain.{Free, Took}
 use Rattle.pool.proofs.Blocks.{length-node_block, most_kids}
@@ -27,7 +27,7 @@ use Rattle.tree.specs.Node.{Node}
 use Rattle.tree.specs.Lookup.{HasElement}
 use Rattle.tree.specs.Stands.{Owns, Reshaped}
 use Rattle.tree.proofs.Standing.{node_of}
-use Rattle.tree.proofs.Edits.{each_kid, tree_at_lem, node_untouched, kids_untouched, kids_reshaped, owns_kid, kid-count, kid_readable, child_is}
+use Rattle.tree.proofs.Edits.{each_kid, tree_at_lem, node_untouched, kids_untouched, kids_reshaped, owns_kid, kid-count, child_is}
 use Rattle.split.specs.Nodes.{HasKidRoom, Summed, Full, Moves}
 use Rattle.split.specs.Ready.{SplitReady}
 use Rattle.split.proofs.Halves.{left_length, right_length, summed}
@@ -101,9 +101,6 @@ module _ {w : List ℕ} {id c : ℕ} (S : SplitReady w id c) where
 
   pub O : Owns w h K f
   O = owns_kid S.owns c S.place
-
-  pub has_child : Inside w id × (c < 32)
-  has_child = kid_readable S.owns S.here S.place
 
   pub has_free : Free w f
   has_free = record { chain = S.owns.chain; once = λ k. omega (arith, S.owns.once k); some = S.some }

@@ -22,18 +22,16 @@ fn sum_lengths(pool: &[u64], k: usize, from: usize) -> usize
     let a = pool::start_of(k);
     let node = &pool[a..a + NODE_WORDS];
     let mut sum = 0;
-    let mut i = 0;
-    while i < 16 {
-        let j = pool::kid(node, from + i);
-        if j != 0 {
-            sum += pool::length_at(pool, j);
+    for j in &node[KIDS + from..KIDS + from + 16] {
+        if *j != 0 {
+            sum += pool::length_at(pool, *j as usize);
         }
-        i += 1;
     }
     sum
 }
 
 // Puts x into node k, as its element c, and child j behind it. Both come from below the node.
+#[tactic(auto, using(tree::proofs::Standing::lent_count))]
 fn put_separator(pool: &mut [u64], k: usize, c: usize, x: u64, j: usize)
     requires { HasKidRoom pool.old k c }
     ensures { (s : HasKidRoom pool.old k c)
@@ -77,6 +75,7 @@ fn keep_lower(pool: &mut [u64], k: usize, n: usize)
 }
 
 // The blank node k becomes a node without elements over one child, below which are n elements.
+#[tactic(auto, using(crate::proofs::Nodes::above_put))]
 fn put_above(pool: &mut [u64], k: usize, child: usize, n: usize)
     requires { Blank pool.old k }
     ensures { pool.new ≡ with_block pool.old k (node_block n [] (child ∷ [])) }

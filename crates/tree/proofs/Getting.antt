@@ -1,5 +1,5 @@
 -- Lookup: what each step of it has found, from what the calls before it ensure.
-use mathlib.Core.Path.{◌≡◌, refl, sym, ap, ap₂, subst, ◌∙◌}
+use mathlib.Core.Path.{◌≡◌, refl, sym, ap, subst, ◌∙◌}
 use mathlib.Core.Bool.{true, false}
 use mathlib.Core.List.{List}
 use Prim.Native.Nat.{ℕ, zero, suc, ◌+◌, ◌*◌, ◌^◌, ◌≤◌, ◌<◌}
@@ -156,7 +156,3 @@ module _ {w : List ℕ} {id index : ℕ} where
 
 pub levels_fit : {w : List ℕ} {h id index : ℕ} → Has w h id index → 32 * h < 2 ^ 64
 levels_fit {h = h} s = omega (arith, levels_few h s.stands.tree s.stands.fit, s.stands.small)
-
-pub counted_got : {h : ℕ} {t : Tree h} {index n x : ℕ} → Counted h t index 0 n x
-    → ◌≡◌ {A = Found} (record { element = x; compared = n }) (get h t index)
-counted_got C = ap₂ (λ (y m : ℕ). record { element = y; compared = m }) C.element (omega (arith, C.compared))

@@ -1,4 +1,6 @@
 // Lookup and replacement in a tree that is known to stand in the pool.
+// The pool is lent beside a node's id, its levels and an index: 01 has the pool as a slice, and each call goes on with the child's. An edit
+// breaks what stands there between two writes, so that no type can hold it.
 #![tactic(auto)]
 
 ghost use Rattle.std.specs.Prelude.{◌≡◌, ◌+◌, ◌*◌, ◌^◌, ◌<◌, get_or};
@@ -40,9 +42,7 @@ pub fn swap_element(pool: &mut [u64], k: usize, i: usize, x: u64) -> u64
     ensures { (s : HasElement pool.old k i) → Swapped pool.old pool.new k i x s.node result }
 {
     let a = pool::start_of(k);
-    let old = pool[a + ELEMS + i];
-    pool[a + ELEMS + i] = x;
-    old
+    std::mem::replace(&mut pool[a + ELEMS + i], x)
 }
 
 // The way that an index goes from node id.
@@ -53,17 +53,13 @@ pub fn way_to(pool: &[u64], id: usize, index: usize) -> Turn
     let a = pool::start_of(id);
     let node = &pool[a..a + NODE_WORDS];
     let p = pool::find_child_index(pool, node, index);
-    let child = p.child;
-    let sub = p.sub;
-    let compared = p.compared;
-    let k = pool::kid(node, child);
-    let n = pool::length_at(pool, k);
+    let k = pool::kid(node, p.child);
     Turn {
-        child,
-        sub,
-        compared,
+        child: p.child,
+        sub: p.sub,
+        compared: p.compared,
         id: k,
-        separator: sub == n,
+        separator: p.sub == pool::length_at(pool, k),
     }
 }
 
@@ -102,11 +98,10 @@ pub fn stretch(pool: &[u64], id: usize, levels: usize, index: usize) -> Stretch
     ensures { Spans pool.now levels id index result }
 {
     if levels == 0 {
-        let n = pool::count_at(pool, id);
         return Stretch {
             node: id,
             slot: index,
-            count: n - index,
+            count: pool::count_at(pool, id) - index,
         };
     }
     let t = way_to(pool, id, index);

@@ -3,6 +3,7 @@
 
 ghost use Rattle.std.specs.Prelude.{◌*◌, ◌≤◌, length};
 
+use model::Answer;
 use pool::{HEAD_WORDS, NODE_WORDS};
 use scan::{MOST_INPUT, OUTPUT_BYTES};
 use std::io;
@@ -40,9 +41,8 @@ fn show_number(out: &mut impl Write, n: u64) -> io::Result<()> {
 }
 
 fn show_list(out: &mut impl Write, pool: &[u64]) -> io::Result<()> {
-    let n = door::len(pool).value;
-    for i in 0..n {
-        show_number(out, door::get(pool, i).value)?;
+    for i in 0..door::len(pool).unwrap_or(0) {
+        show_number(out, Answer::from(door::get(pool, i)).value)?;
     }
     Ok(())
 }
@@ -68,20 +68,20 @@ fn run(out: &mut impl Write, pool: &mut [u64], input: &[u8], room: usize) -> io:
 fn example(out: &mut impl Write, pool: &mut [u64], room: usize) -> io::Result<()>
     requires { room ≤ 27 }
 {
-    door::format(pool);
+    let _ = door::format(pool);
     let input = [3u8, 7, 0, 0, 0, 0, 0, 0, 0, 4, 0, 0, 0, 0, 2, 1, 0, 0, 0];
     run(out, pool, &input, room)
 }
 
-// The first n bytes of a kind and what follows, on a list of three. A kind with a shorter body has commands behind it, up to one cut short
+// The first n bytes of a kind, which may be any byte, and what follows, on a list of three. A kind with a shorter body has commands behind it, up to one cut short
 // or, behind a push, an unknown one.
 fn command(out: &mut impl Write, pool: &mut [u64], kind: u8, n: usize) -> io::Result<()>
     requires { n ≤ 13 }
 {
-    door::format(pool);
-    door::push(pool, 0xA);
-    door::push(pool, 0xB);
-    door::push(pool, 0xC);
+    let _ = door::format(pool);
+    for sample in [0xA, 0xB, 0xC] {
+        let _ = door::push(pool, sample);
+    }
     let input = [kind, 2, 0, 0, 0, 6, 3, 0, 0, 0xFF, 0, 0, 0];
     run(out, pool, &input[..n], ROOM)
 }
@@ -109,7 +109,7 @@ fn work(out: &mut impl Write, input: &[u8]) -> io::Result<()> {
     show_number(out, input.len() as u64)?;
     show_number(out, n as u64)?;
     show(out, &output[last..n])?;
-    show_number(out, digest::rolled_bytes(0, &output[..n]))?;
+    show_number(out, digest::rolled_all(0, &output[..n]))?;
     writeln!(out)
 }
 
@@ -131,12 +131,10 @@ fn each_long(out: &mut impl Write) -> io::Result<()> {
 fn fill(input: &mut [u8])
     requires { 18 * 113 ≤ length input.old }
 {
-    let mut k: usize = 0;
-    while k < INSERTIONS {
+    for k in 0..INSERTIONS {
         let n = k as u64;
         records::write_fields(input, 18 * k, 1, n / 2, 4, n * 2654435761, 8);
         records::write_fields(input, 18 * k + 13, 4, n / 3, 4, 0, 0);
-        k += 1;
     }
 }
 

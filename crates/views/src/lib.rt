@@ -2,12 +2,12 @@
 #![tactic(auto)]
 
 ghost use Rattle.std.specs.Prelude.{◌≡◌};
-ghost use Rattle.model.specs.Calls.{skip_call, equal_call};
+ghost use Rattle.model.specs.Calls.{whether, skip_call, equal_call};
 ghost use Rattle.calls.specs.Does.{Ready};
 ghost use Rattle.views.specs.Part.{part_call};
 
-use calls::{give, len};
-use model::{Answer, Walked};
+use calls::len;
+use model::{Refusal, Walked};
 use pool::ELEMS;
 use tree::Known;
 
@@ -41,16 +41,9 @@ pub fn skip(pool: &[u64], known: Known, position: u64, m: u64) -> Walked
     ensures { (s : Ready pool.now known) → result ≡ skip_call position m s.bag }
 {
     let n = len(pool, known);
-    if n <= position {
+    if n.saturating_sub(position) <= m {
         return Walked {
-            number: 2,
-            element: 0,
-            position: n,
-        };
-    }
-    if n - position <= m {
-        return Walked {
-            number: 2,
+            number: Refusal::PastTheEnd.number(),
             element: 0,
             position: n,
         };
@@ -64,23 +57,21 @@ pub fn skip(pool: &[u64], known: Known, position: u64, m: u64) -> Walked
     }
 }
 
-// Whether two lists have the same elements in the same order: 1 or 0.
-pub fn equal(a: &[u64], in_a: Known, b: &[u64], in_b: Known) -> Answer
+// Whether two lists have the same elements in the same order. A list is no value here: both are read by lookups.
+pub fn equal(a: &[u64], in_a: Known, b: &[u64], in_b: Known) -> bool
     requires { Ready a.now in_a × Ready b.now in_b }
-    ensures { (s : Ready a.now in_a) (t : Ready b.now in_b) → result ≡ equal_call s.bag t.bag }
+    ensures { (s : Ready a.now in_a) (t : Ready b.now in_b) → whether result ≡ equal_call s.bag t.bag }
 {
     let n = len(a, in_a);
     if n != len(b, in_b) {
-        return give(0);
+        return false;
     }
-    let mut i = 0;
-    while i < n {
+    for i in 0..n {
         let x = tree::look_up(a, in_a.root, in_a.levels, i as usize);
         let y = tree::look_up(b, in_b.root, in_b.levels, i as usize);
         if x.element != y.element {
-            return give(0);
+            return false;
         }
-        i += 1;
     }
-    give(1)
+    true
 }

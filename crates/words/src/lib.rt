@@ -1,22 +1,19 @@
-// Runs of words in a slice: copied, cleared, and moved by one word. `sets xs at ys` is xs with ys stored from index `at` on.
+// Runs of words in a slice: copied, cleared, and moved by one word. `sets xs at ys` is xs with ys stored from index `at` on: a run is a
+// place and a length, so that each contract is one equation of the whole slice.
 #![tactic(auto)]
 
 ghost use Rattle.std.specs.Prelude.{◌≡◌, [], ◌∷◌, ◌++◌, ◌⊎◌, ◌+◌, ◌-◌, ◌<◌, ◌≤◌, length, replicate, get_or};
 ghost use Rattle.std.proofs.lemmas.List.Edits.{sets};
 ghost use Rattle.words.specs.Words.{run};
 
-// Copies the n words at `from` to `to`, first word first: a run may so move down over itself.
+// Copies the n words at `from` to `to`. A run may move down over itself.
 pub fn copy_run(w: &mut [u64], from: usize, to: usize, n: usize)
     requires n_in_bounds { from + n ≤ length w.old }
     requires n_in_bounds_2 { to + n ≤ length w.old }
     requires fact { (to ≤ from) ⊎ (from + n ≤ to) }
     ensures { w.new ≡ sets w.old to (run w.old from n) }
 {
-    let mut i = 0;
-    while i < n {
-        w[to + i] = w[from + i];
-        i += 1;
-    }
+    w.copy_within(from..from + n, to);
 }
 
 // Makes the n words at `at` 0.
@@ -24,24 +21,17 @@ pub fn clear_run(w: &mut [u64], at: usize, n: usize)
     requires { at + n ≤ length w.old }
     ensures { w.new ≡ sets w.old at (replicate n 0) }
 {
-    let mut i = 0;
-    while i < n {
-        w[at + i] = 0;
-        i += 1;
-    }
+    w[at..at + n].fill(0);
 }
 
-// Moves all words but the last up by one, last word first, and puts x in front. The last is lost.
-// The loop goes over all of a part, here and in shift_down, so that the compiler makes one move of memory of it.
+// Moves all words but the last up by one, and puts x in front. The last is lost.
+// No rotation, here and in shift_down: the code of one, for any distance, takes 4 KB of stack.
 fn shift_up(part: &mut [u64], x: u64)
     requires { 0 < length part.old }
     ensures { part.new ≡ x ∷ run part.old 0 (length part.old - 1) }
 {
-    let mut j = part.len() - 1;
-    while 0 < j {
-        part[j] = part[j - 1];
-        j -= 1;
-    }
+    let last = part.len() - 1;
+    part.copy_within(..last, 1);
     part[0] = x;
 }
 
@@ -52,13 +42,9 @@ fn shift_down(part: &mut [u64]) -> u64
     ensures part_after { part.new ≡ run part.old 1 (length part.old - 1) ++ 0 ∷ [] }
 {
     let x = part[0];
-    let n = part.len();
-    let mut i = 1;
-    while i < n {
-        part[i - 1] = part[i];
-        i += 1;
-    }
-    part[n - 1] = 0;
+    let last = part.len() - 1;
+    part.copy_within(1.., 0);
+    part[last] = 0;
     x
 }
 

@@ -1,20 +1,18 @@
--- `batch` meets its contract: refused by the check's number with nothing changed, or what `run` does.
-use mathlib.Core.Path.{refl}
+-- `batch` meets its contract: refused by the check with nothing changed, or what `run` does.
+use Rattle.std.proofs.Common.{refl, ap}
+use Rattle.model.specs.Calls.{number_of}
 use Rattle.admission.proofs.Admitting.{refused_promise, held_promise, some_ready}
 use Rattle.batch.specs.Batch.{ran_nothing, Idle}
 use Rattle.batch.proofs.batch.Goals as goal
 
-pub returns-then-o-ne0 : goal.returns-then-o-ne0
-returns-then-o-ne0 c =
+pub returns-in-Err : goal.returns-in-Err
+returns-in-Err c =
     let a = c.args in
-    refused_promise c.admit-o.ensures
-    (λ n. Idle n a.pool.now a.output.now (ran_nothing c.admit-o.result.number) a.pool.now a.output.now) c.if-o-ne0.true
-    (record { ran = refl; words = refl; output = refl })
+    refused_promise c.in-Err.ensures (λ why. Idle (number_of why) a.pool.now a.output.now (ran_nothing c.number.result) a.pool.now a.output.now)
+    (record { ran = ap ran_nothing c.number.ensures; words = refl; output = refl })
 
 pub run-requires : goal.run-requires
-run-requires c =
-    some_ready c.admit-o.ensures c.if-o-ne0.false
+run-requires c = some_ready c.in-Ok.ensures
 
-pub returns : goal.returns
-returns c =
-    held_promise c.admit-o.ensures c.if-o-ne0.false c.run.ensures
+pub returns-in-Ok : goal.returns-in-Ok
+returns-in-Ok c = held_promise c.in-Ok.ensures c.run.ensures

@@ -10,4 +10,4 @@ unfolding push_call
 returns c s =
     let x = c.args.x in
     let D = c.insert.ensures s in
-    does (push_call x) s.bag _ (ap (λ (n : ℕ). insert_call n x s.bag) (sym (c.len-n.ensures s))) _ D.answer D.known D.holds
+    does (push_call x) s.bag _ (ap (λ (n : ℕ). insert_call n x s.bag) (sym (c.len-n.ensures s))) _ _ D.answer D.known D.holds

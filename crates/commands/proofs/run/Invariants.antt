@@ -5,9 +5,9 @@ use Rattle.calls.specs.Does.{Ready}
 use Rattle.commands.proofs.Going.{Going}
 use Rattle.commands.proofs.run.Given as goal
 
-abbrev pub invariant-loop-number : goal.invariant-loop-number
-invariant-loop-number l =
+abbrev pub invariant-loop-turn : goal.invariant-loop-turn
+invariant-loop-turn l =
     (s : Ready l.initial.pool l.initial.k) → Going s.bag l.input l.initial.output l.pool l.output l.k l.commands l.read l.written
 
-abbrev pub decreases-loop-number : goal.decreases-loop-number
-decreases-loop-number l = length l.input - l.read
+abbrev pub decreases-loop-turn : goal.decreases-loop-turn
+decreases-loop-turn l = length l.input - l.read

@@ -1,26 +1,20 @@
 -- `equal` meets its contract: the first pool is admitted, then the second, then the lists are compared.
-use mathlib.Core.Path.{◌≡◌}
-use Rattle.model.specs.Calls.{refused}
+use Rattle.model.specs.Calls.{refused, refusal}
 use Rattle.admission.proofs.Admitting.{refused_promise, refused_tells, held_promise, some_ready}
 use Rattle.door.proofs.equal.Goals as goal
+use Rattle.std.proofs.Common.{◌≡◌, refl}
+use Rattle.model.proofs.Told.{let_go}
 
-pub returns-then-o-ne0 : goal.returns-then-o-ne0
-returns-then-o-ne0 c =
-    refused_promise c.admit-o.ensures (λ n. c.refuse.result ≡ refused n) c.if-o-ne0.true
-    c.refuse.ensures
+pub returns-in_err-in_a : goal.returns-in_err-in_a
+returns-in_err-in_a c =
+    rw (let_go c.from_residual.ensures.1) (refused_promise c.in_err-in_a.ensures (λ r. refusal c.in_err-in_a.field-0.0 ≡ refusal r) refl)
 
-pub returns-then-p-ne0 : goal.returns-then-p-ne0
-returns-then-p-ne0 c =
-    held_promise c.admit-o.ensures c.if-o-ne0.false
-    (λ s. refused_tells c.admit-p.ensures refused c.if-p-ne0.true c.refuse-then-p-ne0.ensures)
+pub returns-in_err-in_b : goal.returns-in_err-in_b
+returns-in_err-in_b c =
+    rw (let_go c.from_residual-in_err-in_b.ensures.1) (held_promise c.in_ok-in_a.ensures (λ s. refused_tells c.in_err-in_b.ensures refused))
 
 pub equal-requires : goal.equal-requires
-equal-requires c = (
-  some_ready c.admit-o.ensures c.if-o-ne0.false,
-  some_ready c.admit-p.ensures c.if-p-ne0.false,
-)
+equal-requires c = (some_ready c.in_ok-in_a.ensures, some_ready c.in_ok-in_b.ensures)
 
 pub returns : goal.returns
-returns c =
-    held_promise c.admit-o.ensures c.if-o-ne0.false
-    (λ s. held_promise c.admit-p.ensures c.if-p-ne0.false (λ t. c.equal.ensures s t))
+returns c = held_promise c.in_ok-in_a.ensures (λ s. held_promise c.in_ok-in_b.ensures (λ t. c.equal.ensures s t))

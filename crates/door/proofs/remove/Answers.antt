@@ -1,15 +1,14 @@
--- `remove` meets its contract: refused by the check's number with no word changed, or what the call on the bag does.
+-- `remove` meets its contract: refused by the check with no word changed, or what the call on the bag does.
+use Rattle.model.proofs.Told.{let_go}
 use Rattle.admission.proofs.Admitting.{refused_edits, held_edits, some_ready}
 use Rattle.door.proofs.remove.Goals as goal
 
-pub returns-then-o-ne0 : goal.returns-then-o-ne0
-returns-then-o-ne0 c =
-    refused_edits c.admit-o.ensures c.if-o-ne0.true c.refuse.ensures
+pub returns-in_err-known : goal.returns-in_err-known
+returns-in_err-known c =
+    rw (let_go c.from_residual.ensures.1) (refused_edits c.in_err-known.ensures)
 
-pub remove-d-requires : goal.remove-d-requires
-remove-d-requires c =
-    some_ready c.admit-o.ensures c.if-o-ne0.false
+pub remove-requires : goal.remove-requires
+remove-requires c = some_ready c.in_ok-known.ensures
 
 pub returns : goal.returns
-returns c =
-    held_edits c.admit-o.ensures c.if-o-ne0.false c.remove-d.ensures
+returns c = held_edits c.in_ok-known.ensures c.remove.ensures

@@ -1,5 +1,5 @@
 use native.Mathlib.Omega.{arith}
-use Rattle.insertion.proofs.Inserting.{as_leaf, leaf-done, as_room, as_next, as_counts, as_few, all_done}
+use Rattle.insertion.proofs.Inserting.{as_leaf, leaf-done, as_next, as_counts, as_few, all_done}
 use Rattle.insertion.proofs.+insert_into_non_full_node.Goals as goal
 
 pub put_element-requires : goal.put_element-requires
@@ -9,10 +9,6 @@ put_element-requires t c =
 pub returns-then-levels-eq0 : goal.returns-then-levels-eq0
 returns-then-levels-eq0 t c =
     leaf-done _ c.if-levels-eq0.true _ _ c.put_element.ensures
-
-pub make_room-r-requires : goal.make_room-r-requires
-make_room-r-requires t c =
-    as_room _ c.if-levels-eq0.false c.requires
 
 pub insert_into_non_full_node-below-requires : goal.insert_into_non_full_node-below-requires
 insert_into_non_full_node-below-requires t c =

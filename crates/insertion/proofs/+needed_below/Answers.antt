@@ -26,6 +26,6 @@ pub returns-then-is_full : goal.returns-then-is_full
 returns-then-is_full t c =
     one_more _ c.way_in-t.ensures _ _ c.is_full.ensures _ _ (omega arith) c.needed_below-below.ensures c.if-is_full.true
 
-pub returns : goal.returns
-returns t c =
+pub returns-else-is_full : goal.returns-else-is_full
+returns-else-is_full t c =
     no_more _ c.way_in-t.ensures _ _ c.is_full.ensures _ _ (omega arith) c.needed_below-below.ensures c.if-is_full.false

@@ -1,11 +1,7 @@
 -- `make_room` meets its contract: each answer hands what the calls ensured to a law of `Inserting`.
 use native.Mathlib.Omega.{arith}
-use Rattle.insertion.proofs.Inserting.{ready_above, way_node, split_ready, no_room_made, half_inside, right_readable, left_made, right_made}
+use Rattle.insertion.proofs.Inserting.{way_node, split_ready, no_room_made, half_inside, right_few, left_made, right_made}
 use Rattle.insertion.proofs.make_room.Goals as goal
-
-pub way_in-t-requires : goal.way_in-t-requires
-way_in-t-requires c =
-    ready_above c.requires.ready
 
 pub is_full-requires : goal.is_full-requires
 is_full-requires c =
@@ -30,14 +26,13 @@ returns-then-t-n c =
 
 pub overflow_add-t : goal.overflow_add-t
 overflow_add-t c =
-    omega (arith, (right_readable c.requires.ready _ c.way_in-t.ensures _ c.is_full.ensures c.if-not-is_full.false _ c.split_child.ensures).1)
+    omega (arith, right_few c.requires.ready _ c.way_in-t.ensures _ c.is_full.ensures c.if-not-is_full.false _ c.split_child.ensures)
 
-pub kid_at-right-requires : goal.kid_at-right-requires
-kid_at-right-requires c =
-    let p = right_readable c.requires.ready _ c.way_in-t.ensures _ c.is_full.ensures c.if-not-is_full.false _ c.split_child.ensures in
-    record { inside = p.0; c_bound = p.1 }
+pub kid_at-requires-clause-c_bound : goal.kid_at-requires-clause-c_bound
+kid_at-requires-clause-c_bound c =
+    right_few c.requires.ready _ c.way_in-t.ensures _ c.is_full.ensures c.if-not-is_full.false _ c.split_child.ensures
 
-pub returns : goal.returns
-returns c =
+pub returns-else-t-n : goal.returns-else-t-n
+returns-else-t-n c =
     λ q. right_made q.ready _ c.way_in-t.ensures _ c.is_full.ensures c.if-not-is_full.false _ c.split_child.ensures
-    _ c.length_at-n.ensures (omega arith) _ c.kid_at-right.ensures
+    _ c.length_at-n.ensures (omega arith) _ c.kid_at.ensures

@@ -23,6 +23,6 @@ pub returns-then-is_full : goal.returns-then-is_full
 returns-then-is_full c =
     λ b. two_more b c.if-known-eq0.false _ c.needed_below-below.ensures _ c.is_full.ensures c.if-is_full.true
 
-pub returns : goal.returns
-returns c =
+pub returns-else-is_full : goal.returns-else-is_full
+returns-else-is_full c =
     λ b. none_more b c.if-known-eq0.false _ c.needed_below-below.ensures _ c.is_full.ensures c.if-is_full.false

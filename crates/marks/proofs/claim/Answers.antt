@@ -1,12 +1,8 @@
 -- `claim` meets its contract: k was marked, or its bit is set now.
 use mathlib.Core.Path.{sym, ◌∙◌}
 use native.Mathlib.Omega.{arith}
-use Rattle.marks.proofs.Laws.{claimed, not_claimed}
+use Rattle.marks.proofs.Laws.{claimed}
 use Rattle.marks.proofs.claim.Goals as goal
-
-pub returns-then-is_marked : goal.returns-then-is_marked
-returns-then-is_marked c =
-    not_claimed _ _ (sym c.is_marked.ensures ∙ c.if-is_marked.true)
 
 pub returns : goal.returns
 returns c =

@@ -1,11 +1,6 @@
 -- `lend` meets its contract: each step leaves the other two nodes as they were.
-use native.Mathlib.Omega.{arith}
-use Rattle.pieces.proofs.Lending.{lend_few, lend-take, lend_swap, lend_put, lend-leaf, lent}
+use Rattle.pieces.proofs.Lending.{lend-take, lend_swap, lend_put, lend-leaf, lent}
 use Rattle.pieces.proofs.lend.Goals as goal
-
-pub overflow_add-n : goal.overflow_add-n
-overflow_add-n c =
-    omega (arith, lend_few c.requires _ c.length_below-n.ensures)
 
 pub take_out-p-requires : goal.take_out-p-requires
 take_out-p-requires c =

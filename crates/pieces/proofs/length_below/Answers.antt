@@ -1,13 +1,6 @@
 -- `length_below` meets its contract: the slot holds 0, or a node whose length is read.
-use Rattle.pieces.proofs.Pieces.{slot_few, below_none, below_inside, below_some}
+use Rattle.pieces.proofs.Pieces.{below_none, below_inside, below_some}
 use Rattle.pieces.proofs.length_below.Goals as goal
-
-pub kid_at-y-requires : goal.kid_at-y-requires
-kid_at-y-requires c =
-    record {
-      inside = c.requires.seated.node.stored.inside;
-      c_bound = slot_few c.requires;
-    }
 
 pub returns-then-y-eq0 : goal.returns-then-y-eq0
 returns-then-y-eq0 c =

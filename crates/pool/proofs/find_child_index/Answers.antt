@@ -1,22 +1,27 @@
-use native.Mathlib.Omega.{arith}
+use Rattle.std.proofs.Common.{arith}
 use Rattle.lists.specs.Lists.{sum}
 use Rattle.words.specs.Words.{run}
-use Rattle.pool.proofs.Finding.{kid_inside, stops, goes_on}
+use Rattle.pool.proofs.Finding.{stops, goes_on}
 use Rattle.pool.proofs.find_child_index.Goals as goal
+use Rattle.pool.proofs.find_child_index.Goals.{else-loop-child-test, then-loop-child-test+else-sub-n+else-child-child-end}
 
-pub loop-sub-init : goal.loop-sub-init
+pub loop-child-init : goal.loop-child-init
 unfolding run sum
-loop-sub-init c =
+loop-child-init c =
     omega arith
-
-pub length_at-n-requires : goal.length_at-n-requires
-length_at-n-requires c =
-    kid_inside _ _ _ c.requires _ _ c.loop-sub.invariant.0 c.kid.ensures
 
 pub returns-then-sub-n : goal.returns-then-sub-n
 returns-then-sub-n c =
-    stops _ _ _ c.requires _ _ c.loop-sub.invariant.0 c.kid.ensures _ _ c.length_at-n.ensures c.loop-sub.invariant.1 (omega arith)
+    stops _ _ _ c.requires _ _ (omega arith) c.kid.ensures _ _ c.length_at-n.ensures c.loop-child.invariant (omega arith)
 
-pub loop-sub-preserved : goal.loop-sub-preserved
-loop-sub-preserved c =
-    goes_on _ _ _ c.requires _ _ c.loop-sub.invariant.0 c.kid.ensures _ _ c.length_at-n.ensures c.loop-sub.invariant.1 (omega arith)
+pub loop-child-preserved : goal.loop-child-preserved
+loop-child-preserved c =
+    (goes_on _ _ _ c.requires _ _ (omega arith) c.kid.ensures _ _ c.length_at-n.ensures c.loop-child.invariant (omega arith)).1
+
+pub unreachable-requires : goal.unreachable-requires
+unreachable-requires c =
+    elim c.loop-child-test.branch [
+      | else-loop-child-test w ↦ omega arith
+      | then-loop-child-test+else-sub-n+else-child-child-end w ↦
+          omega (arith, goes_on _ _ _ c.requires _ _ (omega arith) w.kid.ensures _ _ w.length_at-n.ensures c.loop-child.invariant (omega arith))
+    ]

@@ -1,34 +1,26 @@
-use mathlib.Core.Path.{◌≡◌}
-use Prim.Native.Nat.{◌+◌, ◌-◌}
+-- `read_number` meets its contract: whatever the length, the bytes and the zeros behind them are one number of 8 bytes.
+use mathlib.Core.Path.{◌≡◌, refl, ◌∙◌}
+use mathlib.Core.List.{List, [], ◌∷◌}
+use Prim.Native.Nat.{ℕ, ◌≤◌}
 use native.Mathlib.Omega.{arith}
-use Rattle.words.specs.Words.{run}
-use Rattle.records.specs.Numbers.{number_of, number_at}
-use Rattle.records.proofs.Laws.{seven_more, byte_before}
+use borrow.Rule.Slice.PartMut.{put_mid}
+use lib.ListN.{length, replicate}
+use Rattle.std.specs.Int.{w64, from_le_bytes}
+use Rattle.records.specs.Numbers.{number_of}
 use Rattle.records.proofs.read_number.Goals as goal
 
-pub loop-i-init : goal.loop-i-init
-unfolding run number_of
-loop-i-init c =
-    let e : c.args.n - c.args.n ≡ 0 = omega arith in
-    (omega arith, rw e, rw e (omega arith))
-
-pub overflow_mul-x : goal.overflow_mul-x
-overflow_mul-x c =
-    omega (arith, seven_more _ _ 0 c.loop-i.invariant.2 (omega arith) (omega arith))
-
-pub overflow_add-x : goal.overflow_add-x
-overflow_add-x c =
-    omega (arith, seven_more _ _ _ c.loop-i.invariant.2 (omega arith) c.wide.ensures.upper_bound)
-
-pub loop-i-preserved : goal.loop-i-preserved
-loop-i-preserved c =
-    byte_before _ _ _ _ _ _ c.requires.n_in_bounds (omega arith) c.loop-i.invariant
-    c.wide.ensures.value c.wide.ensures.upper_bound
+filled_up : (bs : List ℕ) → length bs ≤ 8 → from_le_bytes w64 (put_mid 0 (length bs) (replicate 8 0) bs) ≡ number_of bs
+unfolding number_of
+filled_up [] l = refl
+filled_up (a ∷ []) l = omega arith
+filled_up (a ∷ b ∷ []) l = omega arith
+filled_up (a ∷ b ∷ c ∷ []) l = omega arith
+filled_up (a ∷ b ∷ c ∷ d ∷ []) l = omega arith
+filled_up (a ∷ b ∷ c ∷ d ∷ e ∷ []) l = omega arith
+filled_up (a ∷ b ∷ c ∷ d ∷ e ∷ f ∷ []) l = omega arith
+filled_up (a ∷ b ∷ c ∷ d ∷ e ∷ f ∷ g ∷ []) l = omega arith
+filled_up (a ∷ b ∷ c ∷ d ∷ e ∷ f ∷ g ∷ h ∷ []) l = omega arith
+filled_up (a ∷ b ∷ c ∷ d ∷ e ∷ f ∷ g ∷ h ∷ i ∷ bs) l = absurd (omega arith)
 
 pub returns : goal.returns
-unfolding number_at
-returns c =
-    let a = c.args in
-    let e : a.at + c.loop-i.i ≡ a.at = omega arith in
-    let f : a.n - c.loop-i.i ≡ a.n = omega arith in
-    rw (e, f) at c.loop-i.invariant.1
+returns c = c.from_le_bytes.ensures ∙ rw c.copy_from_slice.ensures.after (filled_up c.args.bytes.now c.requires)

@@ -1,43 +1,33 @@
 -- `write_fields` meets its contract: the kind and the two numbers, one behind the other.
-use mathlib.Core.Path.{◌≡◌, ◌∙◌}
+use mathlib.Core.Path.{◌≡◌, refl}
 use mathlib.Core.List.{List, ◌∷◌, ◌++◌}
-use Prim.Native.Nat.{ℕ, suc, ◌+◌}
+use Prim.Native.Nat.{ℕ, suc, ◌+◌, ◌-◌, ◌≤◌}
 use native.Mathlib.Numerals.{add-one}
 use native.Mathlib.Omega.{arith}
-use lib.ListN.{length, set, length-append, length-set}
-use lib.Seq.{sets}
+use borrow.Rule.Slice.PartMut.{put_mid}
+use lib.ListN.{length, set, length-set}
+use lib.Seq.{sets, length-sets}
+use Rattle.words.specs.Words.{run}
 use Rattle.words.proofs.Laws.{sets-append}
 use Rattle.records.specs.Numbers.{bytes_of}
-use Rattle.records.proofs.Laws.{bytes-length}
+use Rattle.records.proofs.Laws.{bytes-length, number_put}
 use Rattle.records.proofs.write_fields.Goals as goal
 
-fields_stored : (s v w : List ℕ) (at k n x m y : ℕ) → v ≡ sets (set s at k) (at + 1) (bytes_of n x)
-    → w ≡ sets v (at + 1 + n) (bytes_of m y) → w ≡ sets s at (k ∷ bytes_of n x ++ bytes_of m y)
-fields_stored s v w at k n x m y e f =
-    let p : at + 1 ≡ suc at = add-one at in
-    rw (f, e, p, sets-append (set s at k) (suc at) (bytes_of n x) (bytes_of m y), bytes-length n x)
+module _ (s : List ℕ) (at k n x m y : ℕ) (room : at + 1 + n + m ≤ length s) where
+  fields_stored : (xs ys : List ℕ) (middle end : ℕ) → at + 1 + n ≡ middle → middle + m ≡ end
+      → xs ≡ bytes_of (length (run (set s at k) (at + 1) (middle - (at + 1)))) x
+      → ys ≡ bytes_of (length (run (put_mid (at + 1) (middle - (at + 1)) (set s at k) xs) middle (end - middle))) y
+      → put_mid middle (end - middle) (put_mid (at + 1) (middle - (at + 1)) (set s at k) xs) ys ≡ sets s at (k ∷ bytes_of n x ++ bytes_of m y)
+  fields_stored xs ys middle end e f g h =
+      let w = set s at k in
+      let v = sets w (at + 1) (bytes_of n x) in
+      let first = number_put w xs (at + 1) middle n x e (rw length-set (omega arith)) g in
+      let second = number_put v ys middle end m y f (simp (length-sets, length-set) (omega arith)) (rw first at h) in
+      let p : suc at + n ≡ middle = omega arith in
+      rw (first, second, add-one at, sets-append w (suc at) (bytes_of n x) (bytes_of m y), bytes-length n x, p)
 
-fields_place : (at k n x m y : ℕ) → at + 1 + n + m ≡ at + length (k ∷ bytes_of n x ++ bytes_of m y)
-fields_place at k n x m y = omega (arith, length-append (bytes_of n x) (bytes_of m y), bytes-length n x, bytes-length m y)
-
-pub write_number-requires : goal.write_number-requires
-write_number-requires c =
-    simp length-set (omega arith)
-
-pub write_number-requires-2 : goal.write_number-requires-2
-write_number-requires-2 c =
-    let e = simp length-set at c.write_number.auto.s in
-    omega arith
-
-pub shape_of-s : goal.shape_of-s
-shape_of-s c =
-    c.write_number-2.auto.s ∙ simp length-set at c.write_number.auto.s
-
-pub returns : goal.returns
-returns c =
+pub returns-clause-s_after : goal.returns-clause-s_after
+unfolding run
+returns-clause-s_after c =
     let a = c.args in
-    record {
-      value = fields_place a.at a.kind a.n a.x a.m a.y;
-      s_after = fields_stored a.s.now _ _ a.at a.kind a.n a.x a.m a.y
-          c.write_number.ensures c.write_number-2.ensures;
-    }
+    fields_stored a.s.now a.at a.kind a.n a.x a.m a.y c.requires _ _ _ _ refl refl c.write_number.ensures c.write_number-2.ensures

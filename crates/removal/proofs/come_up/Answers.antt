@@ -1,6 +1,4 @@
 -- `come_up` meets its contract: word 1 falls by one, and the separator is swapped if it is to be.
-use native.Mathlib.Omega.{arith}
-use lib.ListN.{length-set}
 use Rattle.removal.proofs.Rising.{up_some, up_plain, up_place, up_swapped}
 use Rattle.removal.proofs.come_up.Goals as goal
 
@@ -10,17 +8,12 @@ overflow_sub-pool c =
 
 pub swap_element-requires : goal.swap_element-requires
 swap_element-requires c =
-    up_place c.requires _ c.start_of-a.ensures c.if-d.true
+    up_place c.requires _ c.start_of-a.ensures _ c.in-Some.is
 
-pub shape_of-pool-then-d : goal.shape_of-pool-then-d
-shape_of-pool-then-d c =
-    omega (arith, simp length-set at c.swap_element.auto.pool)
+pub returns-in-Some : goal.returns-in-Some
+returns-in-Some c s =
+    up_swapped s _ c.start_of-a.ensures _ c.in-Some.is _ _ _ c.swap_element.ensures
 
-pub returns-then-d : goal.returns-then-d
-returns-then-d c s =
-    up_swapped s _ c.start_of-a.ensures c.if-d.true _ _ _
-    c.swap_element.ensures
-
-pub returns : goal.returns
-returns c s =
-    up_plain s _ c.start_of-a.ensures c.if-d.false _
+pub returns-in-None : goal.returns-in-None
+returns-in-None c s =
+    up_plain s _ c.start_of-a.ensures c.in-None.is _

@@ -2,13 +2,9 @@
 use mathlib.Core.Path.{sym, ◌∙◌}
 use native.Mathlib.Omega.{arith}
 use borrow.Author.Tests.{not-true, not-false}
-use Rattle.removal.proofs.Going.{above, turn_kid, few_kids, sub-fits, went_inside}
-use Rattle.removal.proofs.Going.{next_kid, next_has, last_some, went_last, went_first, merge_ready, went_merged}
+use Rattle.removal.proofs.Going.{turn_kid, few_kids, sub-fits, went_inside}
+use Rattle.removal.proofs.Going.{next_kid, next_few, last_some, went_last, went_first, merge_ready, went_merged}
 use Rattle.removal.proofs.go_down.Goals as goal
-
-pub way_to-t-requires : goal.way_to-t-requires
-way_to-t-requires c =
-    above c.requires
 
 pub fill-f-requires : goal.fill-f-requires
 fill-f-requires c =
@@ -49,8 +45,8 @@ overflow_add-c c =
           c.way_to-t.ensures,
     )
 
-pub is_thin-requires-2 : goal.is_thin-requires-2
-is_thin-requires-2 c =
+pub is_thin-requires-else-not-is_thin : goal.is_thin-requires-else-not-is_thin
+is_thin-requires-else-not-is_thin c =
     next_kid c.requires _
     c.way_to-t.ensures (not-false _ c.if-not-t.false)
 
@@ -62,26 +58,23 @@ overflow_add-c-then-not-is_thin-2 c =
           c.way_to-t.ensures,
     )
 
-pub kid_at-k-requires : goal.kid_at-k-requires
-kid_at-k-requires c =
-    let p = next_has c.requires _
-    c.way_to-t.ensures
-    (not-false _ c.if-not-t.false) in
-    record { inside = p.0; c_bound = p.1 }
+pub kid_at-k-requires-clause-c_bound : goal.kid_at-k-requires-clause-c_bound
+kid_at-k-requires-clause-c_bound c =
+    next_few c.requires _ c.way_to-t.ensures (not-false _ c.if-not-t.false)
 
 pub returns-then-not-is_thin-2 : goal.returns-then-not-is_thin-2
 returns-then-not-is_thin-2 c s =
     went_first s _ c.way_to-t.ensures (not-false _ c.if-not-t.false) (λ q. sym (c.is_thin.ensures q) ∙ c.if-not-is_thin.false)
-    (λ q. sym (c.is_thin-2.ensures q) ∙ c.if-not-is_thin-2.true) _ c.kid_at-k.ensures
+    (λ q. sym (c.is_thin-else-not-is_thin.ensures q) ∙ c.if-not-is_thin-2.true) _ c.kid_at-k.ensures
 
 pub merge-requires : goal.merge-requires
 merge-requires c =
     merge_ready c.requires _
     c.way_to-t.ensures (not-false _ c.if-not-t.false)
-    (λ q. sym (c.is_thin.ensures q) ∙ c.if-not-is_thin.false) (λ q. sym (c.is_thin-2.ensures q) ∙ c.if-not-is_thin-2.false)
+    (λ q. sym (c.is_thin.ensures q) ∙ c.if-not-is_thin.false) (λ q. sym (c.is_thin-else-not-is_thin.ensures q) ∙ c.if-not-is_thin-2.false)
 
-pub returns : goal.returns
-returns c s =
+pub returns-else-not-is_thin-2 : goal.returns-else-not-is_thin-2
+returns-else-not-is_thin-2 c s =
     went_merged s _ c.way_to-t.ensures (not-false _ c.if-not-t.false) (λ q. sym (c.is_thin.ensures q) ∙ c.if-not-is_thin.false)
-    (λ q. sym (c.is_thin-2.ensures q) ∙ c.if-not-is_thin-2.false) _
+    (λ q. sym (c.is_thin-else-not-is_thin.ensures q) ∙ c.if-not-is_thin-2.false) _
     c.merge.ensures

@@ -8,8 +8,8 @@ pub remove-c-requires : goal.remove-c-requires
 remove-c-requires c =
     root_ready c.requires
 
-pub overflow_add-free : goal.overflow_add-free
-overflow_add-free c =
+pub overflow_add-left : goal.overflow_add-left
+overflow_add-left c =
     omega (arith, frees_few c.requires _ _ c.remove-c.ensures, c.well_formed.0.0)
 
 pub lower-requires : goal.lower-requires

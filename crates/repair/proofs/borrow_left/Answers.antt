@@ -1,25 +1,15 @@
 -- `borrow_left` meets its contract: the left child has a piece to lend, and the other has room for it.
 use native.Mathlib.Omega.{arith}
-use Rattle.repair.proofs.Pairing.{pair_kid, pair_inside, pair_count}
+use Rattle.repair.proofs.Pairing.{pair_inside, pair_count}
 use Rattle.repair.proofs.Moves.{left_lends, left_lent}
 use Rattle.repair.proofs.borrow_left.Goals as goal
-
-pub kid_at-l-requires : goal.kid_at-l-requires
-kid_at-l-requires c =
-    let p = pair_kid c.requires _ (omega arith) in
-    record { inside = p.0; c_bound = p.1 }
-
-pub kid_at-r-requires : goal.kid_at-r-requires
-kid_at-r-requires c =
-    let p = pair_kid c.requires _ (omega arith) in
-    record { inside = p.0; c_bound = p.1 }
 
 pub count_at-m-requires : goal.count_at-m-requires
 count_at-m-requires c =
     pair_inside c.requires _ (omega arith) _ c.kid_at-l.ensures
 
-pub overflow_sub-from : goal.overflow_sub-from
-overflow_sub-from c =
+pub last-requires : goal.last-requires
+last-requires c =
     let s = c.requires in
     omega (
       arith,
@@ -30,9 +20,9 @@ overflow_sub-from c =
 pub lend-requires : goal.lend-requires
 lend-requires c =
     left_lends _ _ _ c.kid_at-l.ensures c.kid_at-r.ensures
-    c.count_at-m.ensures c.requires
+    c.count_at-m.ensures _ _ c.last.ensures c.front.ensures c.requires
 
 pub returns : goal.returns
 returns c s =
-    left_lent _ _ _ c.kid_at-l.ensures c.kid_at-r.ensures c.count_at-m.ensures s _
+    left_lent _ _ _ c.kid_at-l.ensures c.kid_at-r.ensures c.count_at-m.ensures _ _ c.last.ensures c.front.ensures s _
     c.lend.ensures

@@ -1,25 +1,15 @@
 -- `borrow_right` meets its contract: the right child has a piece to lend, and the other has room for it.
 use native.Mathlib.Omega.{arith}
-use Rattle.repair.proofs.Pairing.{pair_kid, pair_inside, pair_count}
+use Rattle.repair.proofs.Pairing.{pair_inside, pair_count}
 use Rattle.repair.proofs.Moves.{right_lends, right_lent}
 use Rattle.repair.proofs.borrow_right.Goals as goal
-
-pub kid_at-l-requires : goal.kid_at-l-requires
-kid_at-l-requires c =
-    let p = pair_kid c.requires _ (omega arith) in
-    record { inside = p.0; c_bound = p.1 }
-
-pub kid_at-r-requires : goal.kid_at-r-requires
-kid_at-r-requires c =
-    let p = pair_kid c.requires _ (omega arith) in
-    record { inside = p.0; c_bound = p.1 }
 
 pub count_at-m-requires : goal.count_at-m-requires
 count_at-m-requires c =
     pair_inside c.requires _ (omega arith) _ c.kid_at-l.ensures
 
-pub overflow_add-to : goal.overflow_add-to
-overflow_add-to c =
+pub behind-requires : goal.behind-requires
+behind-requires c =
     let s = c.requires in
     omega (
       arith,
@@ -30,9 +20,9 @@ overflow_add-to c =
 pub lend-requires : goal.lend-requires
 lend-requires c =
     right_lends _ _ _ c.kid_at-l.ensures c.kid_at-r.ensures
-    c.count_at-m.ensures c.requires
+    c.count_at-m.ensures _ _ c.front.ensures c.behind.ensures c.requires
 
 pub returns : goal.returns
 returns c s =
-    right_lent _ _ _ c.kid_at-l.ensures c.kid_at-r.ensures c.count_at-m.ensures s _
+    right_lent _ _ _ c.kid_at-l.ensures c.kid_at-r.ensures c.count_at-m.ensures _ _ c.front.ensures c.behind.ensures s _
     c.lend.ensures

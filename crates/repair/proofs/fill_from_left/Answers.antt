@@ -1,13 +1,8 @@
 -- `fill_from_left` meets its contract: the child has so many elements more than before, and they came in front.
 use native.Mathlib.Omega.{arith}
-use Rattle.repair.proofs.Pairing.{pair_kid, pair_inside}
+use Rattle.repair.proofs.Pairing.{pair_inside}
 use Rattle.repair.proofs.Places.{lent_inside, lent_more, from_left_filled}
 use Rattle.repair.proofs.fill_from_left.Goals as goal
-
-pub kid_at-k-requires : goal.kid_at-k-requires
-kid_at-k-requires c =
-    let p = pair_kid c.requires.pair_ready _ (omega arith) in
-    record { inside = p.0; c_bound = p.1 }
 
 pub length_at-n-requires : goal.length_at-n-requires
 length_at-n-requires c =

@@ -1,13 +1,8 @@
 -- `fill_with_left` meets its contract: all that the left child had stands in front, and the separator.
 use native.Mathlib.Omega.{arith}
-use Rattle.repair.proofs.Pairing.{pair_kid, pair_inside}
+use Rattle.repair.proofs.Pairing.{pair_inside}
 use Rattle.repair.proofs.Places.{with_left_fits, with_left_filled}
 use Rattle.repair.proofs.fill_with_left.Goals as goal
-
-pub kid_at-l-requires : goal.kid_at-l-requires
-kid_at-l-requires c =
-    let p = pair_kid c.requires.pair_ready _ (omega arith) in
-    record { inside = p.0; c_bound = p.1 }
 
 pub length_at-n-requires : goal.length_at-n-requires
 length_at-n-requires c =

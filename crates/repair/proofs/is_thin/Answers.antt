@@ -1,13 +1,6 @@
 -- `is_thin` meets its contract: the count read is the child's.
-use Rattle.tree.proofs.Edits.{kid_readable}
 use Rattle.repair.proofs.Choice.{kid_inside, thin_is}
 use Rattle.repair.proofs.is_thin.Goals as goal
-
-pub kid_at-k-requires : goal.kid_at-k-requires
-kid_at-k-requires c =
-    let p = let s = c.requires in
-    kid_readable s.owns s.here s.place in
-    record { inside = p.0; c_bound = p.1 }
 
 pub count_at-requires : goal.count_at-requires
 count_at-requires c =

@@ -1,13 +1,6 @@
 -- `merge` meets its contract: the piece taken out of the node goes with the right node's words behind the left one's.
-use native.Mathlib.Omega.{arith}
-use Rattle.repair.proofs.Pairing.{pair_kid}
 use Rattle.repair.proofs.Moves.{merge-take, merge-append, merge-give, merged}
 use Rattle.repair.proofs.merge.Goals as goal
-
-pub kid_at-l-requires : goal.kid_at-l-requires
-kid_at-l-requires c =
-    let p = pair_kid c.requires _ (omega arith) in
-    record { inside = p.0; c_bound = p.1 }
 
 pub take_out-p-requires : goal.take_out-p-requires
 take_out-p-requires c =

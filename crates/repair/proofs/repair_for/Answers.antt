@@ -47,8 +47,8 @@ returns-then-c-gt0-2 c s =
       | else-c-count_at-via-else-c-count_at w ↦ absurd (omega arith)
     ]) c.if-c-gt0-2.true
 
-pub returns : goal.returns
-returns c s =
+pub returns-else-c-gt0-2 : goal.returns-else-c-gt0-2
+returns-else-c-gt0-2 c s =
     row_with_right s (λ q. sym (c.is_thin.ensures q) ∙ c.if-not-is_thin.false) (λ l q.
     elim c.else-c-gt0.branch [
       | else-c-gt0-via-then-c-gt0+else-not-is_thin-2 w ↦ sym (w.is_thin-then-c-gt0.ensures q) ∙ w.if-not-is_thin-2.false

@@ -1,7 +1,8 @@
 -- What the batch wrote lies in the output.
-use Rattle.std.proofs.Common.{arith}
+use Rattle.std.proofs.Common.{sym, arith}
+use Rattle.std.proofs.lemmas.List.{length-take-le}
 use Rattle.batch.proofs.Room.{written_fits}
 use Rattle.replay.proofs.answer.Goals as goal
 
-pub returns : goal.returns
-returns c = omega (arith, written_fits _ c.batch-ran.ensures, c.batch-ran.auto.output)
+pub slice_bounds-result-end : goal.slice_bounds-result-end
+slice_bounds-result-end c = sym (length-take-le _ _ (omega (arith, written_fits _ c.batch-ran.ensures, c.batch-ran.auto.output)))

@@ -1,28 +1,17 @@
 -- Each answer hands what the calls ensured to a law of `Walk`.
 use mathlib.Core.Path.{refl}
 use native.Mathlib.Omega.{arith}
-use Rattle.shape.proofs.Growth.{inside, reach_below}
-use Rattle.shape.proofs.Walk.{not_sturdy, met_twice, leaf_found, inner_found}
-use Rattle.shape.proofs.Walk.{walked_none, walked_more, walked_bad, walked_all}
+use Rattle.shape.proofs.Growth.{reach_below}
+use Rattle.shape.proofs.Walk.{met_twice, leaf_found, inner_found}
+use Rattle.shape.proofs.Walk.{walked_none, walked_more, walked_bad}
 use Rattle.shape.proofs.+grown_grown_kids.Goals as goal
 
 -- ---- grown
-
-pub grown-returns-then-not-sturdy : goal.grown-returns-then-not-sturdy
-grown-returns-then-not-sturdy t c = not_sturdy _ _ _ _ _ _ refl (c.sturdy.ensures.bad c.if-not-sturdy.true)
-
-pub grown-claim-fresh-requires : goal.grown-claim-fresh-requires
-grown-claim-fresh-requires t c =
-    let S = c.sturdy.ensures.good c.if-not-sturdy.false in
-    omega arith
 
 pub grown-returns-then-not-fresh : goal.grown-returns-then-not-fresh
 grown-returns-then-not-fresh t c =
     let S = c.sturdy.ensures.good c.if-not-sturdy.false in
     met_twice _ _ _ _ _ _ c.claim-fresh.ensures.long S.some (c.claim-fresh.ensures.again c.if-not-fresh.true).0
-
-pub grown-leaf_at-requires : goal.grown-leaf_at-requires
-grown-leaf_at-requires t c = inside _ _ c.requires.marks_fit.exact (c.sturdy.ensures.good c.if-not-sturdy.false)
 
 pub grown-returns-then-levels-eq0 : goal.grown-returns-then-levels-eq0
 grown-returns-then-levels-eq0 t c =
@@ -45,15 +34,6 @@ grown-returns t c =
 pub grown_kids-loop-c-init : goal.grown_kids-loop-c-init
 grown_kids-loop-c-init t c = walked_none _ _ _ _ _
 
-pub grown_kids-kid_at-requires : goal.grown_kids-kid_at-requires
-grown_kids-kid_at-requires t c = record {
-  inside = record { some = omega arith; room = omega arith };
-  c_bound = omega (arith, c.count_at-n.ensures);
-}
-
-pub grown_kids-grown-requires : goal.grown_kids-grown-requires
-grown_kids-grown-requires t c = omega (arith, c.loop-c.invariant.long)
-
 pub grown_kids-returns-then-not-grown : goal.grown_kids-returns-then-not-grown
 grown_kids-returns-then-not-grown t c =
     walked_bad _ _ _ _ (record { some = omega arith; room = omega arith }) (omega arith) _ _ _ c.loop-c.invariant _
@@ -63,8 +43,3 @@ pub grown_kids-loop-c-preserved : goal.grown_kids-loop-c-preserved
 grown_kids-loop-c-preserved t c =
     walked_more _ _ _ _ (record { some = omega arith; room = omega arith }) (omega arith) _ _ _ c.loop-c.invariant _
     c.kid_at.ensures (omega (arith, c.count_at-n.ensures)) _ _ c.grown.ensures c.if-not-grown.false
-
-pub grown_kids-returns : goal.grown_kids-returns
-grown_kids-returns t c =
-    walked_all _ _ _ _ (record { some = omega arith; room = omega arith }) (omega arith) _ _ _ c.loop-c.invariant
-    (omega (arith, c.count_at-n.ensures))

@@ -1,4 +1,4 @@
--- `depth` meets its contract. Invariant: the levels passed and those from `at` on are those from k on. Measure: the levels left.
+-- `depth` meets its contract. Invariant: the levels passed and those from `at` on are those from k on.
 use mathlib.Core.Path.{◌≡◌}
 use mathlib.Core.List.{List}
 use Prim.Native.Nat.{ℕ, ◌+◌, ◌-◌, ◌≤◌}
@@ -6,12 +6,8 @@ use Rattle.pool.specs.Parts.{levels_at}
 use Rattle.shape.proofs.depth.Given as goal
 
 abbrev pub Passed : List ℕ → ℕ → ℕ → ℕ → ℕ → Type 0
-Passed w p k at levels = (1 ≤ at) × (levels ≤ p) × (levels + levels_at (p - levels) w at ≡ levels_at p w k)
+Passed w p k at levels = (1 ≤ at) × (levels + levels_at (p - levels) w at ≡ levels_at p w k)
 
 abbrev pub invariant-loop-levels : goal.invariant-loop-levels
 invariant-loop-levels l =
     Passed l.pool l.p l.k l.at l.levels
-
-abbrev pub decreases-loop-levels : goal.decreases-loop-levels
-decreases-loop-levels l =
-    l.p - l.levels

@@ -6,13 +6,6 @@ pub returns-then-not-within_reach : goal.returns-then-not-within_reach
 returns-then-not-within_reach c =
     too_deep (c.within_reach.ensures.bad (c.if-not-within_reach.true))
 
-pub grown-requires : goal.grown-requires
-grown-requires c =
-    record {
-      marks_fit = c.requires;
-      in_reach = c.within_reach.ensures.good (c.if-not-within_reach.false);
-    }
-
 pub returns : goal.returns
 returns c =
     shapes _ _ c.requires.exact c.grown.ensures

@@ -1,32 +1,21 @@
-use mathlib.Core.Path.{◌≡◌, ap, ◌∙◌}
-use Prim.Native.Nat.{ℕ, suc, ◌-◌, ◌*◌, ◌/◌, ◌^◌, ◌<◌}
-use native.Mathlib.Nat.{pow-succ'}
+use mathlib.Core.Path.{◌≡◌}
+use Prim.Native.Nat.{◌+◌, ◌*◌, ◌/◌}
+use native.Mathlib.Nat.{one-le-pow, pow-suc, div-div-eq-div-mul, le-div_iff_mul-le}
+use native.Mathlib.Numerals.{add-one}
 use native.Mathlib.Omega.{arith}
 use borrow.Author.Tests.{ltb-true, ltb-false}
 use Rattle.shape.proofs.within_reach.Goals as goal
-use Rattle.shape.proofs.within_reach.Invariants.{Reach}
 
-one_less : (p levels left rest : ℕ) → 0 < rest → Reach p levels left rest → Reach p levels (left / 16) (rest - 1)
-one_less p levels left rest l R =
-    let s : rest ≡ suc (rest - 1) = omega arith in
-    let e : 16 ^ rest ≡ 16 * 16 ^ (rest - 1) = ap (λ (n : ℕ). 16 ^ n) s ∙ pow-succ' 16 (rest - 1) in
-    (λ a. omega (arith, R.0 a, e), λ b. R.1 (omega (arith, e)))
-
-pub loop-rest-init : goal.loop-rest-init
-loop-rest-init c =
-    (λ a. omega arith, λ b. omega arith)
-
-pub loop-rest-preserved : goal.loop-rest-preserved
-loop-rest-preserved c =
-    let l = c.loop-rest in
-    one_less _ _ l.left l.rest (omega arith) l.invariant
+pub loop-preserved : goal.loop-preserved
+loop-preserved c =
+    rw (c.loop.invariant, add-one c.loop.counter, pow-suc, div-div-eq-div-mul)
 
 pub returns : goal.returns
 returns c =
-    let l = c.loop-rest in
-    let e : l.rest ≡ 0 = omega arith in
-    let R = rw e at l.invariant in
+    let e : c.loop.counter ≡ c.args.levels = omega arith in
+    let i = rw e at c.loop.invariant in
+    let fit = le-div_iff_mul-le {x = 1} {y = (31 * c.args.p + 1) / 2} (one-le-pow c.args.levels 16 (omega arith)) in
     record {
-      good = λ t. R.1 (omega (arith, ltb-true 0 l.left t));
-      bad = λ f a. omega (arith, R.0 a, ltb-false 0 l.left f);
+      good = λ t. omega (arith, fit.0 (omega (arith, i, ltb-true)));
+      bad = λ f a. omega (arith, fit.1 (omega arith), i, ltb-false);
     }

@@ -1,8 +1,7 @@
 -- `adds_up` meets its contract. Invariant: the length is the elements, the lengths of the children before c, and what is left.
--- Measure: the children left.
 use mathlib.Core.Path.{◌≡◌}
 use mathlib.Core.List.{List}
-use Prim.Native.Nat.{ℕ, ◌+◌, ◌-◌, ◌≤◌}
+use Prim.Native.Nat.{ℕ, ◌+◌}
 use Rattle.lists.proofs.Sums.{total}
 use Rattle.words.specs.Words.{run}
 use Rattle.pool.specs.Layout.{block}
@@ -14,12 +13,8 @@ abbrev pub before : List ℕ → ℕ → ℕ → ℕ
 before w k c = total (length_at w) (run (block w k) 33 c)
 
 abbrev pub Left : List ℕ → ℕ → ℕ → ℕ → Type 0
-Left w k c left = (c ≤ count_at w k + 1) × (length_at w k ≡ count_at w k + (before w k c + left))
+Left w k c left = length_at w k ≡ count_at w k + (before w k c + left)
 
 abbrev pub invariant-loop-c : goal.invariant-loop-c
 invariant-loop-c l =
     Left l.pool l.k l.c l.left
-
-abbrev pub decreases-loop-c : goal.decreases-loop-c
-decreases-loop-c l =
-    count_at l.pool l.k + 1 - l.c

@@ -3,6 +3,8 @@ use mathlib.Core.Path.{◌≡◌, sym, ◌∙◌}
 use mathlib.Core.Bool.{Bool, true}
 use Prim.Native.Nat.{ℕ}
 use native.Mathlib.Omega.{arith}
+use Rattle.std.proofs.Common.{Err}
+use Rattle.model.specs.declared.Refusal.TheVariants.{Unsound}
 use Rattle.pool.specs.Sound.{fits}
 use Rattle.pool.proofs.Sized.{Fitting, fits_true}
 use Rattle.marks.proofs.Laws.{none_seen}
@@ -21,42 +23,45 @@ pub overflow_sub-p : goal.overflow_sub-p
 overflow_sub-p c =
     omega (arith, (fitting _ _ c.length_fits.ensures c.if-not-length_fits.false).exact)
 
-pub tree-t-requires : goal.tree-t-requires
-tree-t-requires c =
+pub tree-requires : goal.tree-requires
+tree-requires c =
     let F = fitting _ _ c.length_fits.ensures c.if-not-length_fits.false in
     record {
       marks_fit = record { exact = F.exact; marks = omega (arith, F.few) };
       by_index = none_seen 64;
     }
 
-pub returns-in_default : goal.returns-in_default
-returns-in_default c =
+pub returns-in_err-levels : goal.returns-in_err-levels
+returns-in_err-levels c =
     let F = fitting _ _ c.length_fits.ensures c.if-not-length_fits.false in
-    wrong_tree _ _ F.exact F.few _ (none_seen 64) _ _ c.tree-t.ensures c.in_default.is
+    let e : c.from_residual.result ≡ Err Unsound = grind arith in
+    rw e (wrong_tree _ _ F.exact F.few _ (none_seen 64) _ _ c.tree.ensures c.in_err-levels.ensures.ok_part)
 
-pub chain-f-requires : goal.chain-f-requires
-chain-f-requires c =
+pub chain-requires : goal.chain-requires
+chain-requires c =
     let F = fitting _ _ c.length_fits.ensures c.if-not-length_fits.false in
-    record { exact = F.exact; marks = omega (arith, F.few, c.tree-t.ensures.long) }
+    record { exact = F.exact; marks = omega (arith, F.few, c.tree.ensures.long) }
 
-pub returns-in_default-f : goal.returns-in_default-f
-returns-in_default-f c =
+pub returns-in_err-free : goal.returns-in_err-free
+returns-in_err-free c =
     let F = fitting _ _ c.length_fits.ensures c.if-not-length_fits.false in
-    wrong_chain _ _ F.exact F.few _ (none_seen 64) _ _ c.tree-t.ensures _ c.in-Right.is _ _
-    c.chain-f.ensures c.in_default-f.is
+    let e : c.from_residual-in_err-free.result ≡ Err Unsound = grind arith in
+    rw e
+    (wrong_chain _ _ F.exact F.few _ (none_seen 64) _ _ c.tree.ensures _ c.in_ok-levels.ensures.ok_part _ _
+    c.chain.ensures c.in_err-free.ensures.ok_part)
 
 pub all_marked-requires : goal.all_marked-requires
 all_marked-requires c =
-    omega (arith, (fitting _ _ c.length_fits.ensures c.if-not-length_fits.false).few, c.tree-t.ensures.long, c.chain-f.ensures.long)
+    omega (arith, (fitting _ _ c.length_fits.ensures c.if-not-length_fits.false).few, c.tree.ensures.long, c.chain.ensures.long)
 
 pub returns-then-not-all_marked : goal.returns-then-not-all_marked
 returns-then-not-all_marked c =
     let F = fitting _ _ c.length_fits.ensures c.if-not-length_fits.false in
-    lost_node _ _ F.exact F.few _ (none_seen 64) _ _ c.tree-t.ensures _ c.in-Right.is _ _
-    c.chain-f.ensures _ c.in-Right-f.is _ c.all_marked.ensures (c.if-not-all_marked.true)
+    lost_node _ _ F.exact F.few _ (none_seen 64) _ _ c.tree.ensures _ c.in_ok-levels.ensures.ok_part _ _
+    c.chain.ensures _ c.in_ok-free.ensures.ok_part _ c.all_marked.ensures c.if-not-all_marked.true
 
 pub returns : goal.returns
 returns c =
     let F = fitting _ _ c.length_fits.ensures c.if-not-length_fits.false in
-    all_right _ _ F.exact F.few _ (none_seen 64) _ _ c.tree-t.ensures _ c.in-Right.is _ _
-    c.chain-f.ensures _ c.in-Right-f.is _ c.all_marked.ensures (c.if-not-all_marked.false)
+    all_right _ _ F.exact F.few _ (none_seen 64) _ _ c.tree.ensures _ c.in_ok-levels.ensures.ok_part _ _
+    c.chain.ensures _ c.in_ok-free.ensures.ok_part _ c.all_marked.ensures c.if-not-all_marked.false

@@ -17,24 +17,11 @@ returns-else-length_at-n c =
     (leaf-length _ _ c.requires (eqb-true _ _ (sym c.leaf_at.ensures ∙ c.if-leaf_at.true)) (λ e.
     c.if-length_at-n.false (c.length_at.ensures ∙ e ∙ sym c.count_at-n.ensures))))
 
-pub returns-then-not-zeros_at : goal.returns-then-not-zeros_at
-returns-then-not-zeros_at c =
-    not_filled _ _ (λ F. c.zeros_at.ensures.bad (c.if-not-zeros_at.true) (rw c.count_at-n.ensures F.elems))
-
 pub returns-then-not-zeros_at-2 : goal.returns-then-not-zeros_at-2
 returns-then-not-zeros_at-2 c =
     not_filled _ _
     (inner_kids _ _ c.requires (eqb-false _ _ (sym c.leaf_at.ensures ∙ c.if-leaf_at.false))
     (rw c.count_at-n.ensures at (c.zeros_at-2.ensures.bad (c.if-not-zeros_at-2.true))))
-
-pub adds_up-requires : goal.adds_up-requires
-adds_up-requires c =
-    let R = c.requires in
-    record {
-      inside = R.inside;
-      k_bound = R.most;
-      by_index = R.kids (eqb-false _ _ (sym c.leaf_at.ensures ∙ c.if-leaf_at.false));
-    }
 
 pub returns : goal.returns
 returns c =

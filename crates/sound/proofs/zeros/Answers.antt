@@ -1,47 +1,41 @@
-use mathlib.Core.Path.{◌≡◌, refl, ap, ◌∙◌}
-use mathlib.Core.List.{List}
-use Prim.Native.Nat.{ℕ, ◌+◌}
-use native.Mathlib.Decide.{dec_lt}
+-- `zeros` meets its contract: an OR of words is 0 where all of them are.
+use mathlib.Core.Path.{◌≡◌, refl, sym, ◌∙◌}
+use mathlib.Core.List.{List, [], ◌∷◌}
+use Prim.Native.Nat.{ℕ, zero, suc, ◌+◌, ◌-◌, ◌<◌}
 use native.Mathlib.Omega.{arith}
 use borrow.Author.Tests.{eqb-true, eqb-false}
 use lib.Bits.{bit_or, or_add_and, and_le_l, and_le_r}
-use lib.ListN.{get_or}
-use Rattle.sound.specs.Filled.{Clear}
+use lib.ListN.{length, get_or}
+use Rattle.std.proofs.Common.{rules, fold}
+use Rattle.words.specs.Words.{run}
+use Rattle.words.proofs.Laws.{run_length, run-get_or}
 use Rattle.sound.proofs.zeros.Goals as goal
 
--- an OR is 0 where both are
-or-zero : (a b : ℕ) → bit_or a b ≡ 0 → (a ≡ 0) × (b ≡ 0)
-or-zero a b e = omega (arith, or_add_and a b, and_le_l a b, and_le_r a b)
+all_zero : (xs : List ℕ) (a : ℕ) → fold bit_or a xs ≡ 0 → (a ≡ 0) × ((i : ℕ) → i < length xs → get_or xs i 0 ≡ 0)
+all_zero [] a e = (e, λ i l. absurd (omega arith))
+all_zero (x ∷ xs) a e =
+    let h = all_zero xs (bit_or a x) e in
+    (omega (arith, h.0, or_add_and a x, and_le_l a x, and_le_r a x), each h.0 h.1)
+  where
+    each : bit_or a x ≡ 0 → ((i : ℕ) → i < length xs → get_or xs i 0 ≡ 0) → (i : ℕ) → i < length (x ∷ xs) → get_or (x ∷ xs) i 0 ≡ 0
+    each z f zero l = omega (arith, z, or_add_and a x, and_le_l a x, and_le_r a x)
+    each z f (suc i) l = f i (omega arith)
 
-zero_or : (a b : ℕ) → a ≡ 0 → b ≡ 0 → bit_or a b ≡ 0
-zero_or a b e f = omega (arith, or_add_and a b)
-
-clear_more : (w : List ℕ) (from i : ℕ) → Clear w from i → get_or w i 0 ≡ 0 → Clear w from (i + 1)
-clear_more w from i C e j l m =
-    elim (dec_lt j i) [
-      | yes p ↦ C j l p
-      | no p ↦ (let q : j ≡ i = omega arith in ap (λ (n : ℕ). get_or w n 0) q ∙ e)
-    ]
-
-pub loop-i-init : goal.loop-i-init
-loop-i-init c =
-    (omega arith, omega arith, λ e j l m. absurd (omega arith), λ C. refl)
-
-pub loop-i-preserved : goal.loop-i-preserved
-loop-i-preserved c =
-    let l = c.loop-i in
-    let a = c.args in (
-      omega arith,
-      omega arith,
-      λ e. (let z = or-zero _ _ e in clear_more a.node.now a.from l.i (l.invariant.2 z.0) z.1),
-      λ C. zero_or _ _ (l.invariant.3 (λ j a b. C j a (omega arith))) (C l.i l.invariant.0 (omega arith)),
-    )
+or_zeros : (xs : List ℕ) (a : ℕ) → a ≡ 0 → ((i : ℕ) → i < length xs → get_or xs i 0 ≡ 0) → fold bit_or a xs ≡ 0
+or_zeros [] a e f = e
+or_zeros (x ∷ xs) a e f = or_zeros xs (bit_or a x) (omega (arith, e, f 0 (omega arith), or_add_and a x)) (λ i l. f (suc i) (omega arith))
 
 pub returns : goal.returns
+unfolding run
 returns c =
-    let l = c.loop-i in
-    let e : l.i ≡ c.args.to = omega arith in
+    let w : List ℕ = c.args.node.now in
+    let from : ℕ = c.args.from in
+    let n : ℕ = c.args.to - from in
+    let long : length (run w from n) ≡ n = run_length w from n (omega arith) in
+    let e : c.fold.result ≡ fold bit_or 0 (run w from n) = search rules in
     record {
-      good = λ t. rw e at (l.invariant.2 (eqb-true _ _ t));
-      bad = λ f C. eqb-false _ _ f (l.invariant.3 (rw e C));
+      good = λ t i l m.
+          let s : from + (i - from) ≡ i = omega arith in
+          rw s at (sym (run-get_or w from n (i - from) (omega arith)) ∙ (all_zero (run w from n) 0 (sym e ∙ eqb-true _ _ t)).1 (i - from) (omega arith));
+      bad = λ f C. eqb-false _ _ f (e ∙ or_zeros (run w from n) 0 refl (λ i l. run-get_or w from n i (omega arith) ∙ C (from + i) (omega arith) (omega arith)));
     }

@@ -1,12 +1,6 @@
 -- `keep_lower` meets its contract: the upper slots are cleared, and the count and the length stored.
-use native.Mathlib.Omega.{arith}
-use lib.ListN.{length-set}
 use Rattle.split.proofs.Nodes.{lower_kept}
 use Rattle.split.proofs.keep_lower.Goals as goal
-
-pub bounds-node-1 : goal.bounds-node-1
-bounds-node-1 c =
-    simp length-set (omega arith)
 
 pub returns : goal.returns
 returns c =

@@ -2,13 +2,8 @@
 use mathlib.Core.Path.{refl}
 use native.Mathlib.Omega.{arith}
 use Rattle.split.proofs.Halves.{summed_less}
-use Rattle.split.proofs.Splitting.{has_child, has_middle, has_summed, has_free, moves, keeps, takes, split_done}
+use Rattle.split.proofs.Splitting.{has_middle, has_summed, moves, keeps, takes, split_done}
 use Rattle.split.proofs.split_child.Goals as goal
-
-pub kid_at-child-requires : goal.kid_at-child-requires
-kid_at-child-requires c =
-    let p = has_child c.requires in
-    record { inside = p.0; c_bound = p.1 }
 
 pub element-middle-requires : goal.element-middle-requires
 element-middle-requires c =
@@ -31,10 +26,6 @@ pub overflow_add-right : goal.overflow_add-right
 overflow_add-right c =
     let s = has_summed c.requires _ c.kid_at-child.ensures 16 (omega arith) in
     omega (arith, c.sum_lengths-right.ensures s, summed_less s 16)
-
-pub take_node-sibling-requires : goal.take_node-sibling-requires
-take_node-sibling-requires c =
-    (_, has_free c.requires)
 
 pub move_upper-requires : goal.move_upper-requires
 move_upper-requires c =

@@ -1,19 +1,15 @@
 use native.Mathlib.Omega.{arith}
 use Rattle.tree.proofs.Getting.{has_above, has_below}
-use Rattle.tree.proofs.Spanning.{own_node, leaf_within, leaf_spans, separator_spans, child_spans}
+use Rattle.tree.proofs.Spanning.{leaf_within, leaf_spans, separator_spans, child_spans}
 use Rattle.tree.proofs.+stretch.Goals as goal
-
-pub count_at-n-requires : goal.count_at-n-requires
-count_at-n-requires t c =
-    (own_node c.requires).stored.inside
 
 pub overflow_sub-result : goal.overflow_sub-result
 overflow_sub-result t c =
-    leaf_within _ c.if-levels-eq0.true c.requires _ c.count_at-n.ensures
+    leaf_within _ c.if-levels-eq0.true c.requires _ c.count_at.ensures
 
 pub returns-then-levels-eq0 : goal.returns-then-levels-eq0
 returns-then-levels-eq0 t c s =
-    leaf_spans _ c.if-levels-eq0.true s _ c.count_at-n.ensures
+    leaf_spans _ c.if-levels-eq0.true s _ c.count_at.ensures
 
 pub way_to-t-requires : goal.way_to-t-requires
 way_to-t-requires t c =

@@ -1,8 +1,6 @@
 -- `swap_element` meets its contract: one word of the node is read and stored.
-use mathlib.Core.Path.{refl}
 use Rattle.tree.proofs.Standing.{swaps}
 use Rattle.tree.proofs.swap_element.Goals as goal
 
 pub returns : goal.returns
-returns c s =
-    swaps s _ c.start_of-a.ensures _ _ refl
+returns c s = rw c.replace.ensures.after (swaps s _ c.start_of-a.ensures c.args.x _ c.replace.ensures.value)

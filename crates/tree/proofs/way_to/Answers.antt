@@ -19,10 +19,10 @@ kid-k-requires c =
       c_bound = way_child c.requires _ _ c.start_of-a.ensures c.find_child_index-p.ensures;
     }
 
-pub length_at-n-requires : goal.length_at-n-requires
-length_at-n-requires c =
+pub length_at-requires : goal.length_at-requires
+length_at-requires c =
     inside c
 
 pub returns : goal.returns
 returns c s =
-    way_turns s _ _ c.start_of-a.ensures c.find_child_index-p.ensures _ c.kid-k.ensures _ c.length_at-n.ensures
+    way_turns s _ _ c.start_of-a.ensures c.find_child_index-p.ensures _ c.kid-k.ensures _ c.length_at.ensures

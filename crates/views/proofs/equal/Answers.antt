@@ -33,62 +33,40 @@ module _ {a b : List ℕ} {x y : Known} {n i : ℕ} (A : Agree a x b y n i) (l :
       go s t j m (yes q) = rw q (sym (in_left s) ∙ e ∙ in_right t)
       go s t j m (no q) = A.upto s t j (omega arith)
 
-pub len-n-requires : goal.len-n-requires
-len-n-requires c =
-    c.requires.0
-
-pub len-requires : goal.len-requires
-len-requires c =
-    c.requires.1
-
 pub returns-then-n-len : goal.returns-then-n-len
 returns-then-n-len c s t =
     let e = c.len-n.ensures s in
     let f = c.len.ensures t in
-    c.give.ensures ∙ sym (equal_differ s.bag t.bag (λ q. c.if-n-len.true (e ∙ ap length q ∙ sym f)))
-
-pub loop-i-init : goal.loop-i-init
-loop-i-init c = (
-  omega arith,
-  record {
-    left = c.len-n.ensures;
-    right = λ t. c.if-n-len.false ∙ c.len.ensures t;
-    upto = λ s t j l. absurd (omega arith);
-  },
-)
+    sym (equal_differ s.bag t.bag (λ q. c.if-n-len.true (e ∙ ap length q ∙ sym f)))
 
 pub look_up-x-requires : goal.look_up-x-requires
 look_up-x-requires c =
     let s = c.requires.0 in
-    root_has s _ (omega (arith, c.loop-i.invariant.1.left s))
+    root_has s _ (omega (arith, c.loop-i.invariant.left s))
 
 pub look_up-y-requires : goal.look_up-y-requires
 look_up-y-requires c =
     let t = c.requires.1 in
-    root_has t _ (omega (arith, c.loop-i.invariant.1.right t))
+    root_has t _ (omega (arith, c.loop-i.invariant.right t))
 
 pub returns-then-x-y : goal.returns-then-x-y
 returns-then-x-y c s t =
-    let A = c.loop-i.invariant.1 in
+    let A = c.loop-i.invariant in
     let F = c.look_up-x.ensures in
     let G = c.look_up-y.ensures in
-    c.give-then-x-y.ensures
-    ∙ sym
+    sym
     (equal_differ s.bag t.bag
     (λ q. c.if-x-y.true
     (in_left A (omega arith) _ _ F G s ∙ ap (λ (xs : List ℕ). get_or xs c.loop-i.i 0) q ∙ sym (in_right A (omega arith) _ _ F G t))))
 
 pub loop-i-preserved : goal.loop-i-preserved
-loop-i-preserved c = (
-  omega arith,
-  further c.loop-i.invariant.1 (omega arith) _ _ c.look_up-x.ensures
-      c.look_up-y.ensures c.if-x-y.false,
-)
+loop-i-preserved c =
+    further c.loop-i.invariant (omega arith) _ _ c.look_up-x.ensures
+    c.look_up-y.ensures c.if-x-y.false
 
 pub returns : goal.returns
 returns c s t =
-    let A = c.loop-i.invariant.1 in
-    c.give-2.ensures
-    ∙ sym
+    let A = c.loop-i.invariant in
+    sym
     (equal-same s.bag t.bag
     (ext_get_or 0 (list_of s.bag.root) (list_of t.bag.root) (sym (A.left s) ∙ A.right t) (λ j l. A.upto s t j (omega (arith, A.left s)))))

@@ -1,7 +1,7 @@
--- `equal` meets its contract. Invariant: the lists are equally long, and agree up to i. Measure: what is left.
+-- `equal` meets its contract. Invariant: the lists are equally long, and agree up to i.
 use mathlib.Core.Path.{◌≡◌}
 use mathlib.Core.List.{List}
-use Prim.Native.Nat.{ℕ, ◌-◌, ◌≤◌, ◌<◌}
+use Prim.Native.Nat.{ℕ, ◌<◌}
 use lib.ListN.{get_or}
 use Rattle.model.specs.Tree.{list_of}
 use Rattle.model.specs.Calls.{length_of}
@@ -16,9 +16,4 @@ pub record Agree (a : List ℕ) (x : Known) (b : List ℕ) (y : Known) (n i : �
   pub upto : (s : Ready a x) (t : Ready b y) (j : ℕ) → j < i → get_or (list_of s.bag.root) j 0 ≡ get_or (list_of t.bag.root) j 0
 
 abbrev pub invariant-loop-i : goal.invariant-loop-i
-invariant-loop-i l =
-    (l.i ≤ l.n) × Agree l.a l.in_a l.b l.in_b l.n l.i
-
-abbrev pub decreases-loop-i : goal.decreases-loop-i
-decreases-loop-i l =
-    l.n - l.i
+invariant-loop-i l = Agree l.a l.in_a l.b l.in_b l.n l.i

@@ -18,10 +18,6 @@ pub start_of-a-requires : goal.start_of-a-requires
 start_of-a-requires c =
     omega (arith, stood c.requires _ (omega (arith, c.len.ensures c.requires)) _ c.stretch-s.ensures)
 
-pub overflow_add-result : goal.overflow_add-result
-overflow_add-result c =
-    omega (arith, stood c.requires _ (omega (arith, c.len.ensures c.requires)) _ c.stretch-s.ensures)
-
 pub overflow_add-result-2 : goal.overflow_add-result-2
 overflow_add-result-2 c =
     omega (arith, stood c.requires _ (omega (arith, c.len.ensures c.requires)) _ c.stretch-s.ensures)

@@ -1,22 +1,15 @@
-use mathlib.Core.Path.{◌≡◌, refl}
-use Prim.Native.Nat.{ℕ}
-use native.Mathlib.Omega.{arith}
-use lib.ListN.{length-set, length-replicate, replicate-append-replicate}
-use Rattle.words.proofs.Laws.{sets-append}
+-- `clear_run` meets its contract: the part that is lent comes back as zeros.
+use Rattle.std.proofs.Common.{◌≡◌, ◌+◌, ◌-◌, length, arith, rules}
+use Rattle.std.proofs.lemmas.List.{length-replicate}
+use Rattle.words.specs.Words.{run}
+use Rattle.words.proofs.Laws.{run_length, part_put}
 use Rattle.words.proofs.clear_run.Goals as goal
 
-pub loop-i-init : goal.loop-i-init
-loop-i-init c =
-    (omega arith, refl, refl)
-
-pub loop-i-preserved : goal.loop-i-preserved
-loop-i-preserved c = (
-  omega arith,
-  simp length-set (omega arith),
-  rw (← (replicate-append-replicate {A = ℕ} c.loop-i.i 1 0), sets-append, length-replicate, c.loop-i.invariant.2),
-)
-
 pub returns : goal.returns
+unfolding run
 returns c =
-    let e : c.loop-i.i ≡ c.args.n = omega arith in
-    rw e at c.loop-i.invariant.2
+    let a = c.args in
+    let n : a.at + a.n - a.at ≡ a.n = omega arith in
+    let long : length (run a.w.now a.at a.n) ≡ a.n = run_length _ _ _ c.requires in
+    let zeros = rw (n, long) at (c.fill.ensures.after (λ y e. search rules)) in
+    rw (n, zeros) (part_put _ _ _ _ c.requires (length-replicate a.n 0))

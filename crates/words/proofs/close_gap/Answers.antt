@@ -1,20 +1,16 @@
 -- `close_gap` meets its contract: the words of the gap are shifted down in their own part.
-use mathlib.Core.Path.{◌≡◌, ◌∙◌}
+use mathlib.Core.Path.{◌≡◌}
 use mathlib.Core.List.{List, [], ◌∷◌, ◌++◌}
 use Prim.Native.Nat.{ℕ, ◌+◌, ◌-◌, ◌≤◌, ◌<◌}
-use native.Mathlib.Nat.{add-zero}
 use native.Mathlib.Omega.{arith}
 use borrow.Rule.Slice.PartMut.{put_mid}
-use lib.ListN.{length, get_or, length-append}
+use lib.ListN.{length, length-append}
 use lib.Seq.{sets}
 use Rattle.words.specs.Words.{run}
-use Rattle.words.proofs.Laws.{run_length, run-get_or, run-run, part_put}
+use Rattle.words.proofs.Laws.{run_length, run-run, part_put}
 use Rattle.words.proofs.close_gap.Goals as goal
 
 module _ (w : List ℕ) (at n : ℕ) (some : 0 < n) (room : at + n ≤ length w) where
-  first : get_or (run w at n) 0 0 ≡ get_or w at 0
-  first = rw add-zero at (run-get_or w at n 0 some)
-
   closed : (last : List ℕ) → last ≡ run (run w at n) 1 (length (run w at n) - 1) ++ 0 ∷ []
       → put_mid at n w last ≡ sets w at (run w (at + 1) (n - 1) ++ 0 ∷ [])
   closed last e =
@@ -23,12 +19,8 @@ module _ (w : List ℕ) (at n : ℕ) (some : 0 < n) (room : at + n ≤ length w)
       rw length-append (omega (arith, run_length w (at + 1) (n - 1) (omega arith))) in
       rw (e, k, run-run w at n 1 (n - 1) (omega arith)) (part_put w at n (run w (at + 1) (n - 1) ++ 0 ∷ []) room l)
 
-pub returns : goal.returns
+pub returns-clause-w_after : goal.returns-clause-w_after
 unfolding run
-returns c =
+returns-clause-w_after c =
     let a = c.args in
-    let s = c.shift_down.ensures in
-    record {
-      value = s.value ∙ first a.w.now a.at (a.end - a.at) (omega arith) (omega arith);
-      w_after = closed a.w.now a.at (a.end - a.at) (omega arith) (omega arith) _ s.part_after;
-    }
+    closed a.w.now a.at (a.end - a.at) (omega arith) (omega arith) _ c.shift_down.ensures.part_after
