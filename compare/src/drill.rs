@@ -5,10 +5,11 @@ use crate::calls::{Call, Fields};
 use crate::digest::rolled_words;
 use crate::mirror::Mirror;
 
-/// This and the next two are those of `crates/drill`.
+/// This and the next are those of `crates/drill`.
 const ELEMENTS: u64 = 2000;
 const NODES: usize = 140;
 
+/// Its orders are these, in this order.
 fn place(order: u64, n: u64) -> u64 {
     match order {
         0 => 0,

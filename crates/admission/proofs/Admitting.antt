@@ -1,5 +1,5 @@
 -- From a pool that was admitted to the promise of a call.
-use mathlib.Core.Path.{◌≡◌, refl, ap, subst, ◌∙◌}
+use mathlib.Core.Path.{◌≡◌, refl, subst}
 use mathlib.Core.List.{List}
 use Prim.Native.Nat.{ℕ, ◌<◌}
 use native.Mathlib.Omega.{arith}
@@ -14,7 +14,6 @@ use Rattle.pool.specs.Layout.{root_word}
 use Rattle.pool.specs.Sound.{Holds}
 use Rattle.pool.proofs.Whole.{holds_parts}
 use Rattle.tree.specs.declared.Known.{Known}
-use Rattle.tree.specs.Stands.{known_of}
 use Rattle.calls.specs.Does.{Ready, Does}
 use Rattle.sound.specs.declared.Checked.{Checked}
 use Rattle.sound.specs.Check.{Checks}

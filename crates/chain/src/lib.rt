@@ -1,4 +1,5 @@
-// The chain of free nodes: the first is taken, a node is given back in front, and formatting gives it every node.
+// The chain of free nodes: the first is taken, a node is given back in front, and formatting gives it every node. Nodes are numbers
+// in the lent pool, as in `pool`.
 #![tactic(auto)]
 
 ghost use Rattle.std.specs.Prelude.{◌≡◌, List, ℕ, ◌<◌, length};

@@ -1,4 +1,4 @@
-// The commands of a batch, one after the other, on a pool that is known to hold a bag.
+// The commands of a batch, one after the other, on a pool that is known to hold a bag; both are lent, as in `calls`.
 #![tactic(auto)]
 
 ghost use Rattle.std.specs.Prelude.{◌≡◌, length};
@@ -11,7 +11,7 @@ use model::Refusal;
 use records::{Command, LONGEST_RECORD, Record};
 use tree::Known;
 
-// What a batch gives, as C has it, where it stops too: 01's number, the commands run, and those commands' bytes read and written.
+// What a batch gives, as C has it, wherever it stops: 01's number, the commands run, and those commands' bytes read and written.
 #[repr(C)]
 #[derive(Clone, Copy)]
 pub struct Ran {
@@ -30,23 +30,23 @@ pub enum Stop {
     OutputFull = 7,
 }
 
-impl Stop {
-    // 01's number.
-    pub fn number(self) -> u64
-        ensures { result ≡ stop_number self }
-    {
-        self as u64
+// 01's number.
+impl From<Stop> for u64 {
+    ghost from_gives = { λ stop n. n ≡ stop_number stop };
+
+    fn from(stop: Stop) -> u64 {
+        stop as u64
     }
 }
 
-// A batch's turn: a command to run, and its bytes.
+// A batch's turn: a command to run, and how many bytes it has.
 #[derive(Clone, Copy)]
 pub struct Turn {
     pub command: Command,
     pub bytes: usize,
 }
 
-// The turn at a place of the input, with so many output bytes left: the stops in 01's order.
+// The turn at a place of the input (as `next_at` has it), with so many output bytes left: the stops in 01's order.
 fn turn_at(input: &[u8], at: usize, room: usize) -> Result<Turn, Stop>
     ensures { result ≡ turn_at input.now at room }
 {
@@ -91,32 +91,32 @@ fn serve(pool: &mut [u64], known: &mut Known, c: Command) -> Record
 {
     match perform(pool, known, c) {
         Ok(record) => record,
-        Err(why) => Record::Refusal(why.number()),
+        Err(why) => Record::Refusal(why.into()),
     }
 }
 
-// Runs the commands on a pool that is known to hold a bag, until one of 0, 5, 6 and 7 stops it.
-pub fn run(pool: &mut [u64], known: Known, input: &[u8], output: &mut [u8]) -> Ran
+// Runs the commands on a pool that is known to hold a bag, until one of 0, 5, 6 and 7 stops it: `read` and `written` go on by
+// what a command takes and its answer has, and C's struct tells where they came to.
+pub fn run(pool: &mut [u64], mut known: Known, input: &[u8], output: &mut [u8]) -> Ran
     requires { Ready pool.old known }
     ensures { (s : Ready pool.old known)
         → Runs (batch_of on_bag input.now (length output.old) s.bag) output.old result
         pool.new output.new }
 {
-    let mut k = known;
     let mut commands = 0;
     let mut read = 0;
     let mut written = 0;
     loop {
         match turn_at(input, read, output.len() - written) {
             Ok(turn) => {
-                let answer = serve(pool, &mut k, turn.command);
+                let answer = serve(pool, &mut known, turn.command);
                 written = records::write_record(output, written, answer);
                 commands += 1;
                 read += turn.bytes;
             }
             Err(stop) => {
                 return Ran {
-                    number: stop.number(),
+                    number: stop.into(),
                     commands,
                     read: read as u64,
                     written: written as u64,

@@ -1,4 +1,4 @@
-// A digest of many numbers, by which a program's output tells whether any of them is another.
+// A digest of many numbers, by which a program's output shows whether any of them changed.
 #![tactic(auto)]
 
 // A digest with one more number in it. Sums carry upwards and shifts go down, so that equal numbers do not cancel out.

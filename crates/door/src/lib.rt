@@ -1,4 +1,4 @@
-// The calls that firmware makes, on any words at all. Each checks the pool in full, and refuses by 01's numbers.
+// The calls that firmware makes, on any words at all. Each checks the pool in full, and hands a refusal on.
 #![tactic(auto)]
 
 ghost use Rattle.model.specs.Calls.{refused, told, done, gives, found, whether, check_call, len_call, get_call, skip_call, stays, insert_call, push_call, replace_call, remove_call};
@@ -69,7 +69,7 @@ pub fn remove(pool: &mut [u64], index: u64) -> Result<u64, Refusal>
     calls::remove(pool, &mut known, index)
 }
 
-// A skip of no elements.
+// A skip of no elements. Both are told in C's struct, which has a refusal's position too.
 pub fn step(pool: &[u64], position: u64) -> Walked
     ensures { Tells (stays position) (skip_call position 0) pool.now result }
 {
@@ -82,7 +82,7 @@ pub fn skip(pool: &[u64], position: u64, m: u64) -> Walked
     match admit(pool) {
         Ok(known) => views::skip(pool, known, position, m),
         Err(why) => Walked {
-            number: why.number(),
+            number: why.into(),
             element: 0,
             position,
         },

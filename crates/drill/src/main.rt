@@ -40,6 +40,7 @@ impl Order {
     }
 }
 
+// C's answer, its number too: the digests are of that.
 fn rolled_answer(digest: u64, a: Answer) -> u64 {
     rolled_all(digest, &[a.number, a.value, a.compared])
 }

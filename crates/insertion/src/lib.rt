@@ -1,4 +1,4 @@
-// Insertion into a tree that is known to stand in the pool.
+// Insertion into a tree that is known to stand in the pool. Pool, id, levels and index stand side by side as in `tree`.
 #![tactic(auto)]
 
 ghost use Rattle.std.specs.Prelude.{◌≡◌, ◌+◌, leb, ltb, length};
@@ -22,6 +22,7 @@ pub struct Entry {
     pub taken: usize,
 }
 
+// Lends a node's words, as in `pool`.
 fn is_full(pool: &[u64], k: usize) -> bool
     requires { Node pool.now k }
     ensures { (m : Node pool.now k) → result ≡ leb 31 (length m.elems) }

@@ -1,4 +1,4 @@
-// What the definitions and the code hand on to each other, and 01's numbers for it.
+// What the definitions and the code hand on to each other: refusals with 01's numbers, and what C is told.
 #![tactic(auto)]
 
 ghost use Rattle.std.specs.Prelude.{◌≡◌, MatchResult};
@@ -42,7 +42,7 @@ pub enum Way {
     ByMerge,
 }
 
-// Why a call is refused.
+// Why a call is refused; the text is for callers in Rattle.
 #[derive(Clone, Copy, Debug, PartialEq, Eq)]
 pub enum Refusal {
     Unsound = 1,
@@ -51,12 +51,12 @@ pub enum Refusal {
     Misfit = 4,
 }
 
-impl Refusal {
-    // 01's number.
-    pub fn number(self) -> u64
-        ensures { result ≡ number_of self }
-    {
-        self as u64
+// 01's number.
+impl From<Refusal> for u64 {
+    ghost from_gives = { λ why n. n ≡ number_of why };
+
+    fn from(why: Refusal) -> u64 {
+        why as u64
     }
 }
 
@@ -107,7 +107,7 @@ impl From<Refusal> for Answer {
 
     fn from(why: Refusal) -> Answer {
         Answer {
-            number: why.number(),
+            number: why.into(),
             value: 0,
             compared: 0,
         }

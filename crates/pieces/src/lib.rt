@@ -9,7 +9,7 @@ ghost use Rattle.pieces.specs.Pieces.{Takes, TookOut, Puts, put_in, Joins, lengt
 
 use pool::{COUNT, ELEMS, KIDS, LENGTH, NODE_WORDS};
 
-// An element and a child that go from place to place together; the child is 0 in a leaf.
+// An element and a child that go from place to place together; the child is 0 in a leaf, as in the pool.
 #[derive(Clone, Copy)]
 pub struct Piece {
     pub elem: u64,

@@ -1,6 +1,6 @@
 // The pool: where a node's words are, what they say, and the child finder.
-// A node's words go as `&pool[a..a + 66]` to the finder and to each node fact (01, forms by place): no type holds them with their length,
-// and each fact of node k is a function that lends them.
+// A node's words go as `&pool[a..a + 66]` to the finder and to each node fact (01, forms by place), so they are no type of their own, and each
+// fact of node k is a function that lends them.
 #![tactic(auto)]
 
 ghost use Rattle.std.specs.Prelude.{◌≡◌, ◌+◌, ◌^◌, ◌<◌, ◌≤◌, eqb, leb, length, get_or};

@@ -21,7 +21,7 @@ pub enum Command {
     Len,
 }
 
-// What a batch answers to a command.
+// What a batch answers to a command. A refusal has any number: an enum would ask more of who writes one.
 #[derive(Clone, Copy, Debug, PartialEq, Eq)]
 pub enum Record {
     Done,

@@ -1,4 +1,5 @@
-// Removal from a tree that is known to stand in the pool.
+// Removal from a tree that is known to stand in the pool. Pool, id, levels and index stand side by side as
+// in `tree`, what is known as in `calls`.
 #![tactic(auto)]
 
 ghost use Rattle.model.specs.Tree.{rooted};

@@ -1,4 +1,4 @@
-// A child of a node that stands in the pool is brought to 16 elements: by a neighbour that lends, or by a merge with one.
+// Brings a child of a node to 16 elements: a neighbour lends, or it is merged with one. The pool is lent beside the node, as in `tree`.
 #![tactic(auto)]
 
 ghost use Rattle.std.specs.Prelude.{◌≡◌, ◌∷◌, suc, ◌+◌, ◌-◌, ◌<◌};
@@ -106,7 +106,8 @@ fn repair_for(pool: &[u64], id: usize, c: usize) -> Repair
     }
 }
 
-// Child c of node id borrows from child c - 1: what comes from there stands in front.
+// Child c of node id borrows from child c - 1: what comes from there stands in front. (`fill_with_left` calls another function and counts
+// other elements: one for both would be a match on which.)
 fn fill_from_left(pool: &mut [u64], id: usize, c: usize) -> Refill
     requires c_nonzero { 0 < c }
     requires pair_ready { PairReady LeftLends pool.old id (c - 1) }

@@ -3,7 +3,7 @@
 // of the pool's words are written.
 #![tactic(auto)]
 
-ghost use Rattle.std.specs.Prelude.{◌+◌, ◌*◌, ◌≤◌, ◌<◌, length, IfSome};
+ghost use Rattle.std.specs.Prelude.{◌≤◌, ◌<◌, length, IfSome};
 
 use pool::{HEAD_WORDS, NODE_WORDS};
 use std::io;
@@ -33,7 +33,7 @@ struct Block<'a> {
     ghost short: { length commands.now ≤ 24576 },
 }
 
-// The block in front, and what follows it; none where no whole one stands.
+// The block in front, and what follows it; none where no whole one stands, or one of more than 60 nodes or 24,576 bytes.
 fn split_block(input: &[u8]) -> Option<(Block<'_>, &[u8])>
     ensures { IfSome result (λ split. length split.1.now < length input.now) }
 {

@@ -16,7 +16,7 @@ const POOL_NODES: usize = 60;
 
 const POOL_WORDS: usize = HEAD_WORDS + NODE_WORDS * POOL_NODES;
 
-// Writes the last record at a place, and gives the place after it. Kind and number are 01's bytes.
+// Writes the last record at a place, and gives the place after it. Kind and number are 01's bytes; the place is where `closing` stands.
 #[tactic(auto, unfolding(records::specs::Numbers::bytes_of))]
 fn close(output: &mut [u8], at: usize, number: u64, commands: u64, read: u64) -> usize
     requires { at + 10 ≤ length output.old }
@@ -28,7 +28,8 @@ fn close(output: &mut [u8], at: usize, number: u64, commands: u64, read: u64) ->
     end + 4
 }
 
-// Runs the commands of the input on an empty list, and gives how many bytes of the output are the answer to it: `Scans` speaks of all of it.
+// Runs the commands of the input on an empty list, and gives how many bytes of the output are the answer to it (a length and no slice:
+// `Scans` speaks of the whole output). The 8 is 01's.
 pub fn scan(input: &[u8], output: &mut [u8]) -> usize
     requires { length output.old ≡ output_bytes }
     ensures { Scans input.now result output.new }

@@ -1,5 +1,6 @@
 // The soundness check of a pool (01): the shape of the tree, then the words of its nodes, then the free chain, and that every
 // node was met. One bit for each node tells which were met.
+// Nodes are numbers in the lent pool, and pool, p and marks go on side by side, as in `pool` and `shape`.
 #![tactic(auto)]
 
 ghost use Rattle.std.specs.Prelude.{◌≡◌, ℕ, ◌+◌, ◌*◌, ◌<◌, ◌≤◌, length};
@@ -36,7 +37,7 @@ pub struct Checked {
 
 // ---- words that are 0
 
-// Whether the words of a node from `from` up to `to` are 0. All are read, with no way out between.
+// Whether the words of a node from `from` up to `to` are 0, by places, as `Clear` has it. All are read, with no way out between.
 fn zeros(node: &[u64], from: usize, to: usize) -> bool
     requires { (from ≤ to) × (to ≤ length node.now) }
     ensures { Decides result (Clear node.now from to) }
@@ -109,7 +110,7 @@ fn filled(pool: &[u64], k: usize) -> bool
     adds_up(pool, k)
 }
 
-// Whether the nodes are filled whose marks are set in a word, which loses them one by one; its first mark is that of node `first`.
+// Whether the nodes are filled whose marks are set in a word, of which only those are visited; its first mark is that of node `first`.
 fn word_filled(pool: &[u64], first: usize, word: u64) -> bool
     requires { (j : ℕ) → j < 64 → bit_at word j ≡ 1 → Readable pool.now (first + j) }
     ensures { Decides result ((j : ℕ) → j < 64 → bit_at word j ≡ 1 → Filled pool.now (first + j)) }

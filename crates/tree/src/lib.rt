@@ -1,6 +1,6 @@
 // Lookup and replacement in a tree that is known to stand in the pool.
-// The pool is lent beside a node's id, its levels and an index: 01 has the pool as a slice, and each call goes on with the child's. An edit
-// breaks what stands there between two writes, so that no type can hold it.
+// The pool is lent beside a node's id, its levels and an index: 01 has the pool as a slice, and `get`, `replace` (and `stretch` like them) call
+// themselves on the child. An edit breaks what stands there between two writes, so that no type can hold it.
 #![tactic(auto)]
 
 ghost use Rattle.std.specs.Prelude.{◌≡◌, ◌+◌, ◌*◌, ◌^◌, ◌<◌, get_or};
@@ -9,7 +9,7 @@ ghost use Rattle.tree.specs.Lookup.{Above, Turns, Has, Got, Counted, Spans, HasE
 use model::{Found, Stretch};
 use pool::{ELEMS, NODE_WORDS};
 
-// What is known of the bag in a pool: the root's id, 0 for none, the inner levels, and how many nodes are free.
+// What is known of the bag in a pool: the root's id, 0 for none as in the pool, the inner levels, and how many nodes are free.
 #[derive(Clone, Copy)]
 pub struct Known {
     pub root: usize,
@@ -17,7 +17,8 @@ pub struct Known {
     pub free: usize,
 }
 
-// Where an index goes from a node: the finder's place, the child's id, and whether it is the separator after the child.
+// Where an index goes from a node: the finder's place (flat, since each use names one field), the child's id, and whether it is the
+// separator after the child.
 #[derive(Clone, Copy)]
 pub struct Turn {
     pub child: usize,
@@ -27,7 +28,7 @@ pub struct Turn {
     pub separator: bool,
 }
 
-// Element i of node k.
+// Element i of node k, whose words are lent as in `pool`.
 pub fn element(pool: &[u64], k: usize, i: usize) -> u64
     requires { HasElement pool.now k i }
     ensures { (s : HasElement pool.now k i) → result ≡ get_or s.node.elems i 0 }

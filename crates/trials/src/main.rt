@@ -3,7 +3,6 @@
 
 ghost use Rattle.std.specs.Prelude.{◌*◌, ◌≤◌, length};
 
-use model::Answer;
 use pool::{HEAD_WORDS, NODE_WORDS};
 use scan::{MOST_INPUT, OUTPUT_BYTES};
 use std::io;
@@ -42,12 +41,13 @@ fn show_number(out: &mut impl Write, n: u64) -> io::Result<()> {
 
 fn show_list(out: &mut impl Write, pool: &[u64]) -> io::Result<()> {
     for i in 0..door::len(pool).unwrap_or(0) {
-        show_number(out, Answer::from(door::get(pool, i)).value)?;
+        show_number(out, door::get(pool, i).map_or(0, |f| f.element))?;
     }
     Ok(())
 }
 
-// A batch with so much room: its input, what it gives, all of the output, and the list that it leaves.
+// A batch with so much room: its input, what it gives, all of the output, and the list that it leaves. What it gives is
+// C's struct.
 fn run(out: &mut impl Write, pool: &mut [u64], input: &[u8], room: usize) -> io::Result<()>
     requires { room ≤ 27 }
 {
@@ -73,8 +73,8 @@ fn example(out: &mut impl Write, pool: &mut [u64], room: usize) -> io::Result<()
     run(out, pool, &input, room)
 }
 
-// The first n bytes of a kind, which may be any byte, and what follows, on a list of three. A kind with a shorter body has commands behind it, up to one cut short
-// or, behind a push, an unknown one.
+// The first n bytes of a kind (01's byte: unknown ones are tried too) and what follows, on a list of three. A kind with a shorter body has
+// commands behind it, up to one cut short or, behind a push, an unknown one.
 fn command(out: &mut impl Write, pool: &mut [u64], kind: u8, n: usize) -> io::Result<()>
     requires { n ≤ 13 }
 {
@@ -113,7 +113,7 @@ fn work(out: &mut impl Write, input: &[u8]) -> io::Result<()> {
     writeln!(out)
 }
 
-// As much of one kind as is run, and a byte more.
+// As much of one kind (01's byte, unknown ones too) as is run, and a byte more.
 fn one_kind(out: &mut impl Write, kind: u8) -> io::Result<()> {
     let input = [kind; MOST_INPUT + 1];
     work(out, &input[..MOST_INPUT])?;

@@ -1,4 +1,4 @@
-// Walks, equality and the window, on a pool that is known to hold a bag.
+// Walks, equality and the window, on a pool that is known to hold a bag; both are lent, as in `calls`.
 #![tactic(auto)]
 
 ghost use Rattle.std.specs.Prelude.{◌≡◌};
@@ -11,7 +11,7 @@ use model::{Refusal, Walked};
 use pool::ELEMS;
 use tree::Known;
 
-// Some words of the pool: the first one's place, and how many.
+// Some words of the pool, as C has them: the first one's place, and how many. 01: a refusal is an empty part, and nothing else is.
 #[repr(C)]
 #[derive(Clone, Copy)]
 pub struct Span {
@@ -35,7 +35,7 @@ pub fn part(pool: &[u64], known: Known, index: u64) -> Span
     }
 }
 
-// The element m places after a position, and the place after it. No sum is made before it is known to fit.
+// The element m places after a position, and the place after it. No sum is made before it is known to fit. A walk is C's struct.
 pub fn skip(pool: &[u64], known: Known, position: u64, m: u64) -> Walked
     requires { Ready pool.now known }
     ensures { (s : Ready pool.now known) → result ≡ skip_call position m s.bag }
@@ -43,7 +43,7 @@ pub fn skip(pool: &[u64], known: Known, position: u64, m: u64) -> Walked
     let n = len(pool, known);
     if n.saturating_sub(position) <= m {
         return Walked {
-            number: Refusal::PastTheEnd.number(),
+            number: Refusal::PastTheEnd.into(),
             element: 0,
             position: n,
         };

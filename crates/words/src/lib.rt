@@ -1,16 +1,15 @@
 // Runs of words in a slice: copied, cleared, and moved by one word. `sets xs at ys` is xs with ys stored from index `at` on: a run is a
-// place and a length, so that each contract is one equation of the whole slice.
+// place and a length, so that each contract is one equation of the whole slice. (The pool is lent, and nodes are numbers in it: no heap.)
 #![tactic(auto)]
 
-ghost use Rattle.std.specs.Prelude.{◌≡◌, [], ◌∷◌, ◌++◌, ◌⊎◌, ◌+◌, ◌-◌, ◌<◌, ◌≤◌, length, replicate, get_or};
+ghost use Rattle.std.specs.Prelude.{◌≡◌, [], ◌∷◌, ◌++◌, ◌+◌, ◌-◌, ◌<◌, ◌≤◌, length, replicate, get_or};
 ghost use Rattle.std.proofs.lemmas.List.Edits.{sets};
 ghost use Rattle.words.specs.Words.{run};
 
-// Copies the n words at `from` to `to`. A run may move down over itself.
+// Copies the n words at `from` to `to`. A run may move over itself.
 pub fn copy_run(w: &mut [u64], from: usize, to: usize, n: usize)
     requires n_in_bounds { from + n ≤ length w.old }
     requires n_in_bounds_2 { to + n ≤ length w.old }
-    requires fact { (to ≤ from) ⊎ (from + n ≤ to) }
     ensures { w.new ≡ sets w.old to (run w.old from n) }
 {
     w.copy_within(from..from + n, to);
@@ -25,7 +24,7 @@ pub fn clear_run(w: &mut [u64], at: usize, n: usize)
 }
 
 // Moves all words but the last up by one, and puts x in front. The last is lost.
-// No rotation, here and in shift_down: the code of one, for any distance, takes 4 KB of stack.
+// No rotation, here and in shift_down: the library's, for any distance, is slower and takes 4 KB of stack.
 fn shift_up(part: &mut [u64], x: u64)
     requires { 0 < length part.old }
     ensures { part.new ≡ x ∷ run part.old 0 (length part.old - 1) }

@@ -8,8 +8,8 @@ use Rattle.batch.proofs.batch.Goals as goal
 pub returns-in-Err : goal.returns-in-Err
 returns-in-Err c =
     let a = c.args in
-    refused_promise c.in-Err.ensures (λ why. Idle (number_of why) a.pool.now a.output.now (ran_nothing c.number.result) a.pool.now a.output.now)
-    (record { ran = ap ran_nothing c.number.ensures; words = refl; output = refl })
+    refused_promise c.in-Err.ensures (λ why. Idle (number_of why) a.pool.now a.output.now (ran_nothing c.into.result) a.pool.now a.output.now)
+    (record { ran = ap ran_nothing c.into.ensures; words = refl; output = refl })
 
 pub run-requires : goal.run-requires
 run-requires c = some_ready c.in-Ok.ensures

@@ -1,7 +1,7 @@
 -- `get` meets its contract: what the tree function finds, unless the index is past the end.
 use Rattle.std.proofs.Common.{sym, ap, ◌∙◌}
 use Rattle.model.proofs.Told.{let_go}
-use Rattle.model.specs.Calls.{found, refusal}
+use Rattle.model.specs.Calls.{found}
 use Rattle.model.proofs.Calls.{get_beyond, get-done}
 use Rattle.calls.proofs.Reading.{place_tells, root_has, root_got}
 use Rattle.calls.proofs.get.Goals as goal

@@ -6,13 +6,12 @@ use Rattle.model.specs.declared.Answer.{Answer}
 use Rattle.model.specs.declared.Refusal.{Refusal}
 use Rattle.model.specs.declared.Refusal.TheVariants.{Unsound, PastTheEnd, NoRoom, Misfit}
 use Rattle.model.specs.Tree.{Bag}
-use Rattle.model.specs.Calls.{outcome, told, done, gives, found, refusal, number_of, len_call}
+use Rattle.model.specs.Calls.{outcome, told, done, gives, found, len_call}
 use Rattle.tree.specs.declared.Known.{Known}
 use Rattle.calls.specs.Does.{Ready, Does}
 use Rattle.records.specs.declared.Command.{Command}
 use Rattle.records.specs.declared.Command.TheVariants.{Insert, Remove, Push, Get, Replace, Len}
 use Rattle.records.specs.declared.Record.{Record}
-use Rattle.records.specs.declared.Record.TheVariants.{Done, Element, Length, Got}
 use Rattle.commands.specs.OnBag.{perform, given, reply_to, on_bag}
 use Rattle.commands.specs.Serving.{Serves, record_of}
 use Rattle.commands.proofs.perform.Goals as goal

@@ -11,7 +11,7 @@ overflow_sub-output c =
     omega (arith, G.fits, same_room G)
 
 pub returns-in-Err : goal.returns-in-Err
-returns-in-Err c s = rw c.number.ensures (stops (c.loop-turn.invariant s) _ (sym c.in-Err.ensures))
+returns-in-Err c s = rw c.into.ensures (stops (c.loop-turn.invariant s) _ (sym c.in-Err.ensures))
 
 pub serve-answer-requires : goal.serve-answer-requires
 serve-answer-requires c = now_ready (c.loop-turn.invariant c.requires)

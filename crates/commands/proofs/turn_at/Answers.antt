@@ -3,7 +3,7 @@ use Rattle.std.proofs.Common.{◌≡◌, sym, ◌∙◌, arith}
 use Rattle.std.specs.Prelude.{Some, None}
 use Rattle.model.proofs.Told.{let_go}
 use Rattle.commands.specs.declared.Stop.TheVariants.{KindUnknown}
-use Rattle.records.proofs.Laws.{whole_stands, next_end, next_unknown, next_short, next_whole}
+use Rattle.records.proofs.Laws.{next_end, next_unknown, next_short, next_whole}
 use Rattle.commands.proofs.Turns.{turn_next, turn_full, turn_run}
 use Rattle.commands.proofs.turn_at.Goals as goal
 

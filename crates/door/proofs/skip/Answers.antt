@@ -10,4 +10,4 @@ pub returns-in-Ok : goal.returns-in-Ok
 returns-in-Ok c = held_promise c.in-Ok.ensures c.skip.ensures
 
 pub returns-in-Err : goal.returns-in-Err
-returns-in-Err c = rw c.number.ensures (refused_tells c.in-Err.ensures (stays _))
+returns-in-Err c = rw c.into.ensures (refused_tells c.in-Err.ensures (stays _))

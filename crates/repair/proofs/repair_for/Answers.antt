@@ -10,10 +10,6 @@ pub returns-then-not-is_thin : goal.returns-then-not-is_thin
 returns-then-not-is_thin c s =
     row_nothing s (λ q. sym (c.is_thin.ensures q) ∙ c.if-not-is_thin.true)
 
-pub is_thin-requires-then-c-gt0 : goal.is_thin-requires-then-c-gt0
-is_thin-requires-then-c-gt0 c =
-    sibling c.requires _ (omega arith)
-
 pub returns-then-not-is_thin-2 : goal.returns-then-not-is_thin-2
 returns-then-not-is_thin-2 c s =
     row_from_left s (λ q. sym (c.is_thin.ensures q) ∙ c.if-not-is_thin.false) c.if-c-gt0.true

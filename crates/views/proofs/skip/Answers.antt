@@ -1,6 +1,6 @@
 -- `skip` meets its contract: past the end, or what the tree function finds.
 use mathlib.Core.Path.{sym, ap, ◌∙◌}
-use Prim.Native.Nat.{ℕ, ◌+◌, ◌<◌}
+use Prim.Native.Nat.{◌+◌, ◌<◌}
 use native.Mathlib.Omega.{arith}
 use Rattle.model.specs.declared.Found.{Found}
 use Rattle.model.specs.Calls.{length_of, walked}
@@ -11,7 +11,7 @@ use Rattle.views.proofs.skip.Goals as goal
 pub returns-then-saturating_sub-m : goal.returns-then-saturating_sub-m
 returns-then-saturating_sub-m c s =
     let e = c.len-n.ensures s in
-    rw (c.number.ensures, e) (sym (skip_beyond s.bag _ _ (omega arith)))
+    rw (c.into.ensures, e) (sym (skip_beyond s.bag _ _ (omega arith)))
 
 pub look_up-f-requires : goal.look_up-f-requires
 look_up-f-requires c =
