@@ -43,6 +43,14 @@ module _ {w : List ℕ} {c : Checked} (C : Checks w (Ok c)) where
     holds = λ b H. let s = C.sound b H in let t = (holds_parts H).top in cc;
   }
 
+-- a refusal of the check is one of `admit`
+pub admits_refused : {w : List ℕ} {why : Refusal} → Checks w (Err why) → Admits w (Err why)
+admits_refused C = record {
+  misfit = λ n. let e = C.misfit n in cc;
+  unsound = λ s u. let e = C.unsound s u in cc;
+  holds = λ b H. let e = C.sound b H in cc;
+}
+
 -- ---- what a call makes of it
 
 -- refused with 4 or 1

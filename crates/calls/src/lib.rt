@@ -60,8 +60,8 @@ pub fn replace(pool: &mut [u64], known: Known, index: u64, x: u64) -> Result<u64
     requires { Ready pool.old known }
     ensures { (s : Ready pool.old known) → Does (replace_call index x) s.bag (told gives result) known pool.new }
 {
-    let i = place(pool, known, index)?;
-    Ok(tree::replace(pool, known.root, known.levels, i, x))
+    let at = place(pool, known, index)?;
+    Ok(tree::replace(pool, known.root, known.levels, at, x))
 }
 
 // Puts x at an index, unless the nodes that this needs are not free. The new root is stored here.

@@ -6,17 +6,17 @@ use Rattle.calls.proofs.Reading.{place_tells, root_has}
 use Rattle.calls.proofs.Editing.{does, replace_does}
 use Rattle.calls.proofs.replace.Goals as goal
 
-pub returns-in_err-i : goal.returns-in_err-i
-returns-in_err-i c s =
-    let P = place_tells s.bag _ (c.in_err-i.ensures s) in
+pub returns-in_err-at : goal.returns-in_err-at
+returns-in_err-at c s =
+    let P = place_tells s.bag _ (c.in_err-at.ensures s) in
     rw (let_go c.from_residual.ensures.1, P.0) (does _ s.bag _ (replace_beyond s.bag _ _ P.1) _ _ refl s.is s.holds)
 
 pub replace-requires : goal.replace-requires
 replace-requires c =
-    let P = place_tells c.requires.bag _ (c.in_ok-i.ensures c.requires) in
+    let P = place_tells c.requires.bag _ (c.in_ok-at.ensures c.requires) in
     rw P.0 (root_has c.requires _ P.1)
 
 pub returns : goal.returns
 returns c s =
-    let P = place_tells s.bag _ (c.in_ok-i.ensures s) in
+    let P = place_tells s.bag _ (c.in_ok-at.ensures s) in
     replace_does s _ _ _ P.1 (rw P.0 at c.replace.ensures)

@@ -1,5 +1,6 @@
--- `read_number` meets its contract: whatever the length, the bytes and the zeros behind them are one number of 8 bytes.
-use mathlib.Core.Path.{◌≡◌, refl, ◌∙◌}
+-- `read_number` meets its contract: whatever the length, the bytes and the zeros behind them are one number of 8 bytes. That it is
+-- the one given is found by arithmetic.
+use mathlib.Core.Path.{◌≡◌, refl}
 use mathlib.Core.List.{List, [], ◌∷◌}
 use Prim.Native.Nat.{ℕ, ◌≤◌}
 use native.Mathlib.Omega.{arith}
@@ -23,4 +24,9 @@ filled_up (a ∷ b ∷ c ∷ d ∷ e ∷ f ∷ g ∷ h ∷ []) l = omega arith
 filled_up (a ∷ b ∷ c ∷ d ∷ e ∷ f ∷ g ∷ h ∷ i ∷ bs) l = absurd (omega arith)
 
 pub returns : goal.returns
-returns c = c.from_le_bytes.ensures ∙ rw c.copy_from_slice.ensures.after (filled_up c.args.bytes.now c.requires)
+returns c =
+    let bs = c.args.bytes.now in
+    let copied = c.copy_from_slice.new.self in
+    let filled : from_le_bytes w64 (put_mid 0 (length bs) (replicate 8 0) copied) ≡ number_of bs =
+    rw c.copy_from_slice.ensures.after (filled_up bs c.requires) in
+    omega (arith, filled)
