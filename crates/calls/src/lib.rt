@@ -47,6 +47,7 @@ fn place(pool: &[u64], known: Known, index: u64) -> Result<usize, Refusal>
     }
 }
 
+#[tactic(auto, using(model::proofs::Calls::get_beyond))]
 pub fn get(pool: &[u64], known: Known, index: u64) -> Result<Found, Refusal>
     requires { Ready pool.now known }
     ensures { (s : Ready pool.now known) → told found result ≡ get_call index s.bag }

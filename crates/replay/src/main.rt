@@ -3,7 +3,7 @@
 // of the pool's words are written.
 #![tactic(auto)]
 
-ghost use Rattle.std.specs.Prelude.{◌≡◌, ◌+◌, ◌*◌, ◌≤◌, length, IfSome};
+ghost use Rattle.std.specs.Prelude.{◌≡◌, ◌+◌, ◌-◌, ◌*◌, ◌≤◌, ◌++◌, length, drop, IfSome};
 
 use pool::{HEAD_WORDS, NODE_WORDS};
 use std::io;
@@ -35,7 +35,7 @@ struct Block<'a> {
 
 // The block in front, and what follows it; none where no whole one stands, or one of more than 60 nodes or 24,576 bytes.
 fn split_block(input: &[u8]) -> Option<(Block<'_>, &[u8])>
-    ensures { IfSome result (λ split. 8 + length split.0.commands.now + length split.1.now ≡ length input.now) }
+    ensures { IfSome result (λ split. (8 ≤ length input.now) × (drop 8 input.now ≡ split.0.commands.now ++ split.1.now)) }
 {
     let (head, body) = input.split_at_checked(BLOCK_HEAD)?;
     let nodes = records::read_number(&head[..4]) as usize;
@@ -50,7 +50,8 @@ fn split_block(input: &[u8]) -> Option<(Block<'_>, &[u8])>
 // Runs commands on an empty list, and gives their answers.
 fn answer<'a>(pool: &mut [u64], commands: &[u8], output: &'a mut [u8]) -> &'a [u8]
     requires { 9 * length commands.now + 4 ≤ length output.old }
-    ensures { length result.now ≤ length output.old }
+    ensures fits { length result.now ≤ length output.old }
+    ensures in_front { result.ref_ptr ≡ output.entry.ref_ptr }
 {
     let _ = door::format(pool);
     let ran = batch::batch(pool, commands, output);
@@ -69,7 +70,7 @@ fn show(out: &mut impl Write, block: Block<'_>) -> io::Result<()> {
 
 // What follows the first line.
 fn after_line(input: &[u8]) -> &[u8]
-    ensures { length result.now ≤ length input.now }
+    ensures { result.now ≡ drop (length input.now - length result.now) input.now }
 {
     match input.iter().position(|byte| *byte == LINE_END) {
         Some(end) => &input[end + 1..],
