@@ -1,7 +1,11 @@
 -- `insert` meets its contract: each answer hands what the calls ensured to a law of `Whole`.
+use mathlib.Core.Path.{◌≡◌}
+use mathlib.Core.List.{List}
 use Prim.Native.Nat.{ℕ}
 use native.Mathlib.Omega.{arith}
-use Rattle.insertion.specs.Ready.{BagReady}
+use Rattle.std.specs.Prelude.{Some}
+use Rattle.model.specs.Tree.{Bag}
+use Rattle.insertion.specs.Ready.{BagReady, Inserts}
 use Rattle.insertion.proofs.Rooting.{few_levels, root_node}
 use Rattle.insertion.proofs.Whole.{bare_free, one_free, blank_takes, bare_inserted}
 use Rattle.insertion.proofs.Whole.{Roomy, room_roomy, two_free, raise_ready, full_roomy, few_taken, inserted}
@@ -68,6 +72,13 @@ overflow_sub-result-2 c =
       few_taken _ _ c.lacks_room.ensures c.requires c.if-lacks_room.false (roomy _ j c.requires) _ _ c.insert_into_non_full_node-taken.ensures,
     )
 
+-- the nodes that are free then, found by arithmetic
+left_free : {w w' : List ℕ} {b : Bag} {index x root levels m n : ℕ} → n ≡ m
+    → Inserts w w' b index x (Some (record { root = root; levels = levels; free = m }))
+    → Inserts w w' b index x (Some (record { root = root; levels = levels; free = n }))
+left_free e I = rw e I
+
 pub returns : goal.returns
 returns c b =
-    inserted _ _ c.lacks_room.ensures b c.if-lacks_room.false (roomy _ (goal.at.returns c).Joined-is_full b) _ _ c.insert_into_non_full_node-taken.ensures
+    left_free (omega arith)
+    (inserted _ _ c.lacks_room.ensures b c.if-lacks_room.false (roomy _ (goal.at.returns c).Joined-is_full b) _ _ c.insert_into_non_full_node-taken.ensures)
