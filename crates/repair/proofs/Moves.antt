@@ -178,6 +178,10 @@ module _ {P : ℕ → ℕ → Type 0} {w : List ℕ} {id c : ℕ} (s : PairReady
   pair : Pair w s.height s.tree s.free c id l r
   pair = record { owns = s.owns; place = s.place; top = s.here; left = pair_is s c (omega arith) l hl; right = pair_is s (c + 1) (omega arith) r hr }
 
+-- Spots are the same where their numbers are, so that an end that differs is told by a number.
+pub same_spot : {s t : Spot} → s.node ≡ t.node → s.elem ≡ t.elem → s.kid ≡ t.kid → s ≡ t
+same_spot {s} {t} e f g = rw (e, f, g) refl
+
 -- the ends, where the left child has m elements
 abbrev last_of : ℕ → ℕ → Spot
 last_of l m = record { node = l; elem = m - 1; kid = m }

@@ -6,10 +6,14 @@ use Prim.Native.Nat.{ℕ, zero, suc, ◌+◌, ◌-◌, ◌≤◌, ◌<◌}
 use native.Mathlib.Nat.{add-zero, add-suc, suc-add}
 use native.Mathlib.Omega.{arith}
 use borrow.Rule.Slice.PartMut.{put_mid}
-use lib.ListN.{length, get_or, set, take, drop, length-set, length-drop, drop_of_length-le}
+use lib.ListN.{length, get_or, set, take, drop, length-set, length-take, length-drop, drop_of_length-le}
 use lib.Seq.{sets, sets-eq, set_comm, set-set, set-get_or, get_or-set_same, get_or-set_other, drop-set-lt, drop-set-add, take-set-le}
-use lib.Seq.{get_or-take, get_or-drop, take-suc, drop-cons, length-take-le, take_at, drop_at, take-take, drop-drop}
+use lib.Seq.{get_or-take, get_or-drop, take-suc, drop-cons, length-take-le, take_at, drop_at, take-take, drop-drop, length-sets}
+use Rattle.std.proofs.lemmas.Grind.{get_or-set_at, same_number_lists}
 use Rattle.words.specs.Words.{run}
+
+-- For `grind`: what one word is after stores. With so few laws a wrong store is told by a word that differs, not by a limit.
+pub ruleset stores = (length-set, get_or-set_at, get_or-set_other)
 
 -- ---- words stored from a place on
 
@@ -64,6 +68,14 @@ module _ {A : Type 0} where
   sets_all xs ys e =
       let past : length xs ≤ 0 + length ys = omega arith in
       rw (sets-eq ys xs 0 (omega arith), drop_of_length-le xs past, append-nil ys)
+
+-- n words xs are stored from `at` on where each word of ys says so
+pub stored : (w ys : List ℕ) (at n : ℕ) (xs : List ℕ) → length xs ≡ n → at + n ≤ length w → length ys ≡ length w
+    → ((k : ℕ) → at ≤ k → k < at + n → get_or ys k 0 ≡ get_or xs (k - at) 0)
+    → ((k : ℕ) → (k < at) ⊎ (at + n ≤ k) → get_or ys k 0 ≡ get_or w k 0) → ys ≡ sets w at xs
+stored w ys at n xs e h l inside outside =
+    same_number_lists ys (sets w at xs) (rw length-sets l)
+    (λ k b. grind (arith, sets_inside w at xs k (k - at) 0, sets_outside, inside, outside))
 
 -- ---- runs
 
@@ -124,3 +136,20 @@ run-run xs from n i m h = rw (← drop-drop) (go (drop from xs) n i h)
 -- n words lent from `at` on that have come back as ys
 pub part_put : (w : List ℕ) (at n : ℕ) (ys : List ℕ) → at + n ≤ length w → length ys ≡ n → put_mid at n w ys ≡ sets w at ys
 part_put w at n ys h l = rw (sets-eq ys w at (omega arith), append_assoc, ← l, drop-drop (length ys) at w)
+
+-- the list then: its length, and one word of it, inside the part and elsewhere
+pub part_length : (w : List ℕ) (i m : ℕ) (part : List ℕ) → i + m ≤ length w → length part ≡ m → length (put_mid i m w part) ≡ length w
+part_length w i m part h l = rw (part_put w i m part h l) (length-sets w i part)
+
+pub part_inside : (w : List ℕ) (i m : ℕ) (part : List ℕ) (k : ℕ) → i + m ≤ length w → length part ≡ m → i ≤ k → k < i + m
+    → get_or (put_mid i m w part) k 0 ≡ get_or part (k - i) 0
+part_inside w i m part k h l low high =
+    rw (part_put w i m part h l) (sets_inside w i part k (k - i) 0 (omega arith) (omega arith) (omega arith))
+
+pub part_outside : (w : List ℕ) (i m : ℕ) (part : List ℕ) (k : ℕ) → i + m ≤ length w → length part ≡ m → (k < i) ⊎ (i + m ≤ k)
+    → get_or (put_mid i m w part) k 0 ≡ get_or w k 0
+part_outside w i m part k h l (inl o) = rw (part_put w i m part h l) (sets_outside w i part k 0 (inl o))
+part_outside w i m part k h l (inr o) = rw (part_put w i m part h l) (sets_outside w i part k 0 (inr (omega arith)))
+
+-- For `grind`: the length, and what one word is, after a part has come back.
+pub ruleset parts = (part_length, part_inside, part_outside, length-take, length-drop)

@@ -1,17 +1,15 @@
--- `shift_up` meets its contract: all words but the last are pasted one place higher, and x goes in front.
-use Rattle.std.proofs.Common.{◌≡◌, List, [], ◌∷◌, ℕ, ◌+◌, ◌-◌, ◌≤◌, length, set, take, arith, append-nil, drop_of_length-le}
-use lib.Seq.{paste}
+-- `shift_up` meets its contract, word by word: x stands first, and behind it each word but the last.
+use Rattle.std.proofs.Common.{◌≡◌, List, ◌∷◌, ℕ, ◌+◌, ◌-◌, ◌<◌, length, get_or, arith}
+use Rattle.std.proofs.lemmas.Grind.{elements}
 use Rattle.words.specs.Words.{run}
+use Rattle.words.proofs.Laws.{run_length, run-get_or, stores}
 use Rattle.words.proofs.shift_up.Goals as goal
 
-put_first : (w : List ℕ) (m x : ℕ) → m + 1 ≡ length w → set (paste w 1 w (m - 0)) 0 x ≡ x ∷ take m w
-put_first [] m x e = absurd (omega arith)
-put_first (y ∷ w) m x e =
-    let z : m - 0 ≡ m = omega arith in
-    let past : length (y ∷ w) ≤ 1 + m = omega arith in
-    rw (z, drop_of_length-le (y ∷ w) past, append-nil (take m (y ∷ w)))
+shifted : (w ys : List ℕ) (m x : ℕ) → m + 1 ≡ length w → length ys ≡ length w → get_or ys 0 0 ≡ x
+    → ((k : ℕ) → 0 < k → k < length w → get_or ys k 0 ≡ get_or w (k - 1) 0) → ys ≡ x ∷ run w 0 m
+shifted w ys m x e l first behind = grind (arith, elements, run_length, run-get_or, first, behind)
 
 pub returns : goal.returns
-unfolding run
 returns c =
-    rw c.copy_within.ensures.after (put_first _ _ _ (omega arith))
+    let w = c.args.part.now in
+    shifted w _ (length w - 1) c.args.x (omega arith) (grind (arith, stores)) (grind (arith, stores)) (λ k some l. grind (arith, stores))
